@@ -1,12 +1,13 @@
 #!/usr/bin/env python3
-"""Times kb_lazy's `read_choices` and kb_input's `input_of`, and the copy of an input beside it, on chains of 10 to 1,000
-objects in worlds of 4 and 64 classes.
+"""Times kb_lazy's `read_choices` and `resolve_choices` and kb_input's `input_of`, and the copy of an input beside it, on chains
+of 10 to 1,000 objects in worlds of 4 and 64 classes.
 
 All classes but one extend that one, which is abstract and has an int, the next object and another one, each declared of
 itself; each of the others has one more object, declared of its own class. A picture is a chain of so many objects, of which
 the receiver is the first, and whose classes take turns: of each the int and the next object were read, but not what is next
 to the last. That is what `read_choices` is asked about, under lazy initialisation and with a bound that is deeper than the
-chain: the answers are null, each object of the picture, and a new object of each class that is not abstract. `input_of` is
+chain: the answers are null, each object of the picture, and a new object of each class that is not abstract. `resolve_choices` is
+asked about the last open location, where each object's other object was read as one: the same answers but null. `input_of` is
 asked for the input of the chain alone, of one in which each object's other object was read as an open location, and of one in
 which that of its own class was, so that as many types are asked for as there are such classes.
 
@@ -38,7 +39,7 @@ SOURCE = with_main("""\
 use kb_class::MethodId;
 use kb_heap::Input;
 use kb_input::input_of;
-use kb_lazy::read_choices;
+use kb_lazy::{read_choices, resolve_choices};
 use kb_load::world_of;
 use kb_names::{ExactType, JType, read_target, read_type};
 use kb_picture::{Init, Length, Origin, PicLoc, PicObject, Picture, Seen, Standing};
@@ -64,6 +65,7 @@ enum Shape {
 #[derive(Clone, Copy)]
 enum Call {
     Choices,
+    Accesses,
     Input,
     Copy,
 }
@@ -91,6 +93,7 @@ fn shape_of(word: &[u8]) -> Option<Shape> {
 fn call_of(word: &[u8]) -> Option<Call> {
     match word {
         b"choices" => Some(Call::Choices),
+        b"accesses" => Some(Call::Accesses),
         b"input" => Some(Call::Input),
         b"copy" => Some(Call::Copy),
         _ => None,
@@ -181,6 +184,7 @@ fn count(
     for _ in 0..asked.times {
         let found = match asked.call {
             Call::Choices => choices(alloc, world, picture, kind, asked.size)?,
+            Call::Accesses => accesses(alloc, world, picture, kind, asked.size)?,
             Call::Input => objects(alloc, world, method, picture)?,
             Call::Copy => copied(alloc, input)?,
         };
@@ -208,6 +212,28 @@ fn choices(
         kind,
         false,
         Init::Lazy,
+        u32::MAX,
+        3,
+    ) {
+        Ok(choices) => Ok(choices.len()),
+        Err(_) => Err(Stop),
+    }
+}
+
+/// How many choices there are for the last location.
+fn accesses(
+    alloc: Global,
+    world: &World,
+    picture: &Picture,
+    kind: &JType,
+    size: u32,
+) -> Result<usize, Stop> {
+    match resolve_choices(
+        alloc,
+        world,
+        picture,
+        size.saturating_sub(1),
+        kind,
         u32::MAX,
         3,
     ) {
@@ -402,6 +428,8 @@ def wanted(shape, size, classes, call):
     """How many choices there are, or objects: an open location is one more. The abstract class has no objects."""
     if call == "choices":
         return size + classes
+    if call == "accesses":
+        return size + classes - 1
     return size if shape == "chain" else 2 * size
 
 
@@ -422,15 +450,15 @@ def ratio(took, before):
     return f"{took / before:>8.1f}" if before else f"{'':>8}"
 
 
-def print_choices(runs):
-    print(f"{'read_choices':<12} {'classes':>8} {'objects':>8} {'us':>10} {'by ten':>8} {'ns a choice':>12}")
+def print_choices(name, shape, call, runs):
+    print(f"{name:<16} {'classes':>8} {'objects':>8} {'us':>10} {'by ten':>8} {'ns a choice':>12}")
     for classes in WORLDS:
         before = None
         for size in SIZES:
-            took = measured("chain", size, classes, "choices", runs)
-            each = took * 1e9 / wanted("chain", size, classes, "choices")
+            took = measured(shape, size, classes, call, runs)
+            each = took * 1e9 / wanted(shape, size, classes, call)
             cells = f"{took * 1e6:>10.2f} {ratio(took, before)} {each:>12.1f}"
-            print(f"{'':<12} {classes:>8} {size:>8} {cells}", flush=True)
+            print(f"{'':<16} {classes:>8} {size:>8} {cells}", flush=True)
             before = took
 
 
@@ -453,7 +481,8 @@ def main():
     if options.runs < 1:
         sys.exit("--runs must be at least 1")
     PROGRAM.build(__file__)
-    print_choices(options.runs)
+    print_choices("read_choices", "chain", "choices", options.runs)
+    print_choices("resolve_choices", "open", "accesses", options.runs)
     print_inputs(options.runs)
 
 

@@ -1,5 +1,5 @@
 #!/usr/bin/env python3
-"""Times the text of reports of kb_report, and that of their paths' diagrams of kb_diagram, beside its length.
+"""Times the text of reports of kb_report_text, and that of their paths' diagrams of kb_diagram, beside its length.
 
 Reports have so many ended paths, each with one array of one element that the run has written; one path with so many terms,
 each the sum of the one before it and a variable; one path that has seen so many arguments; or one ended path with so many of
@@ -8,7 +8,7 @@ call is the mean of many, less that of a run which only makes the report. Where 
 the same in each line. Diagrams are to take no longer than reports of the same paths.
 
 Usage: bench/report.py [--runs N]
-The first run takes as long as the proofs of kb_report, kb_diagram and the crates below them take, unless a checkout on this
+The first run takes as long as the proofs of kb_report_text, kb_diagram and the crates below them take, unless a checkout on this
 machine has kept them.
 """
 
@@ -17,7 +17,7 @@ import sys
 
 from built import Program, with_main, with_those_below
 
-CRATES = with_those_below("reporting: kb_diagram kb_heap kb_names kb_picture kb_report kb_rows kb_terms kb_world")
+CRATES = with_those_below("reporting: kb_diagram kb_heap kb_names kb_picture kb_report_text kb_rows kb_terms kb_world")
 
 SOURCE = with_main("""\
 //! Makes a report with so many paths, terms, seen arguments or objects, and gives its text, or its diagrams', so many times.
@@ -29,7 +29,7 @@ use kb_names::{ExactType, JType, Target, read_target};
 use kb_picture::{
     Ended, Init, Leaf, Length, Origin, Out, Path, PicObject, Picture, Seen, SymEnding, Write,
 };
-use kb_report::{Report, report_text};
+use kb_report_text::{Report, report_text};
 use kb_rows::Row;
 use kb_terms::{Op, Operand, Term};
 use kb_world::{World, link};

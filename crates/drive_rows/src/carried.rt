@@ -10,7 +10,7 @@ use kb_fits::fits_types;
 use kb_heap::{Bound, Ending, Heap, Input};
 use kb_machine::run;
 use kb_picture::{Leaf, Path, PlaceLists, ending_at, is_instance, places};
-use kb_report::Report;
+use kb_report_text::Report;
 use kb_table::{RowResult, RowStop};
 use kb_world::World;
 use std::alloc::Global;

@@ -12,7 +12,7 @@ use kb_frames::start;
 use kb_load::reached;
 use kb_oracle::ToldOracle;
 use kb_picture::Init;
-use kb_report::Report;
+use kb_report_text::Report;
 use kb_table::{RowResult, RowStop};
 use kb_world::World;
 use std::alloc::Global;

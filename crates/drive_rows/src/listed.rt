@@ -2,7 +2,7 @@
 
 use crate::rows::TableRow;
 use kb_picture::Init;
-use kb_report::{Report, report_text};
+use kb_report_text::{Report, report_text};
 use kb_rows::{Held, Row};
 use kb_table::{RowResult, RowStop, kept};
 use kb_world::World;

@@ -1,9 +1,8 @@
 //! What an oracle is told.
 
 use kb_chain::Log;
+use kb_log_text::{LineRefusal, read_log};
 use kb_oracle::Told;
-use kb_path_lines::read_chain;
-use kb_rows::Row;
 use kb_table::{RowResult, RowStop, read_number};
 use std::alloc::Global;
 
@@ -31,16 +30,28 @@ fn read_told(alloc: Global, word: &str) -> RowResult<(u64, Told)> {
         return Ok((call, Told::Bad(read_number(number)?)));
     }
     match what.strip_prefix("log:") {
-        Some(log) => Ok((call, Told::Undecided(read_log(alloc, log)?))),
+        Some(log) => Ok((call, Told::Undecided(log_of(alloc, log)?))),
         None => Err(RowStop::Malformed),
     }
 }
 
-/// A log: chains, with `/` between two.
-fn read_log(alloc: Global, text: &str) -> RowResult<Log> {
-    let mut entries = Row::new(alloc);
+/// A log: chains, with `/` between two, each the numbers of a line `learn` with `,` between two.
+fn log_of(alloc: Global, text: &str) -> RowResult<Log> {
+    let mut lines = String::new(alloc);
     for chain in text.split('/') {
-        entries.push(read_chain(alloc, chain, ',')?)?;
+        add_line(chain, &mut lines)?;
     }
-    Ok(Log { entries })
+    match read_log(alloc, lines.as_bytes()) {
+        Ok(log) => Ok(log),
+        Err(LineRefusal::BadLine(_)) => Err(RowStop::Malformed),
+        Err(LineRefusal::Stopped(_)) => Err(RowStop::NoMemory),
+    }
+}
+
+fn add_line(chain: &str, lines: &mut String) -> RowResult<()> {
+    lines.push_str("learn")?;
+    for number in chain.split(',') {
+        write!(lines, " {number}")?;
+    }
+    Ok(lines.push_str("\n")?)
 }

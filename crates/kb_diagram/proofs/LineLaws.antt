@@ -1,13 +1,13 @@
 -- Lines of objects whose slots hold the same.
 use Rattle.std.proofs.Common.{◌≡◌, ℕ, zero, suc, ◌+◌, List, [], ◌∷◌, ◌++◌, codes, refl, ap, ◌∙◌}
 use Rattle.std.specs.Fmt.{decimal}
-use Rattle.kb_link.specs.World.{World}
-use Rattle.kb_link.specs.declared.slots.FieldSlot.{FieldSlot}
+use Rattle.kb_classes.specs.World.{World}
+use Rattle.kb_classes.specs.declared.slots.FieldSlot.{FieldSlot}
 use Rattle.kb_names.specs.Escapes.{name_text}
 use Rattle.kb_names.specs.declared.types.ExactType.{ExactType}
 use Rattle.kb_names.specs.declared.types.ExactType.TheVariants as exact
 use Rattle.kb_semantics.specs.Values.{slots_of_class}
-use Rattle.kb_path_words.specs.Words.{exact_text}
+use Rattle.kb_heap_words.specs.Words.{exact_text}
 use Rattle.kb_path_words.specs.Lines.{numbered_lines}
 use Rattle.kb_picture.specs.declared.picture.Length.{Length}
 use Rattle.kb_picture.specs.declared.picture.Length.TheVariants.{Plain, Is, Above}

@@ -6,13 +6,14 @@ use Rattle.std.specs.List.{flat_map}
 use Rattle.std.specs.Option.{option_map_or}
 use Rattle.std.specs.Fmt.{decimal}
 use Rattle.kb_grammar.specs.Lines.{lines_text}
-use Rattle.kb_link.specs.World.{World}
-use Rattle.kb_link.specs.declared.slots.FieldSlot.{FieldSlot}
+use Rattle.kb_classes.specs.World.{World}
+use Rattle.kb_classes.specs.declared.slots.FieldSlot.{FieldSlot}
 use Rattle.kb_names.specs.Escapes.{name_text}
 use Rattle.kb_names.specs.declared.types.ExactType.{ExactType}
 use Rattle.kb_names.specs.declared.types.ExactType.TheVariants as exact
 use Rattle.kb_semantics.specs.Values.{slots_of_class}
-use Rattle.kb_path_words.specs.Words.{exact_text, out_text}
+use Rattle.kb_heap_words.specs.Words.{exact_text}
+use Rattle.kb_path_words.specs.Words.{out_text}
 use Rattle.kb_path_words.specs.Lines.{numbered_lines, decisions_text, leaf_line}
 use Rattle.kb_picture.specs.declared.path.Out.{Out}
 use Rattle.kb_picture.specs.declared.path.Made.{Made}

@@ -6,7 +6,7 @@ use crate::NoMemory;
 use crate::heaps::write_heaps;
 use kb_path_words::{Text, write_decisions, write_leaf_line};
 use kb_picture::Path;
-use kb_world::World;
+use kb_semantics::World;
 use std::alloc::Global;
 
 /// The text of the diagram of a path of the world: the objects of its picture before the run and, where the path has ended, after

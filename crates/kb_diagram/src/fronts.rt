@@ -6,7 +6,7 @@ ghost use Rattle.kb_names.specs.Escapes.{name_text};
 
 use crate::NoMemory;
 use kb_path_words::Text;
-use kb_world::FieldSlot;
+use kb_semantics::FieldSlot;
 
 pub(crate) fn begin_field(text: &mut Text, field: &FieldSlot) -> Result<(), NoMemory>
     ensures { OnOk result (text.new ≡ text.old ++ cell_front (name_text field.now.name)) }

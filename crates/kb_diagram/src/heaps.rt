@@ -11,7 +11,7 @@ use crate::made::write_made;
 use crate::objects::write_objects;
 use kb_path_words::Text;
 use kb_picture::{Ended, Leaf, Path, Picture};
-use kb_world::World;
+use kb_semantics::World;
 use std::alloc::Global;
 use std::collections::HashMap;
 

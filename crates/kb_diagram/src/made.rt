@@ -9,9 +9,9 @@ ghost use Rattle.kb_diagram.specs.Diagram.{numbered_words, cell_front, cell_word
 use crate::NoMemory;
 use crate::fronts::{begin_element, begin_field};
 use kb_names::ExactType;
-use kb_path_words::{Text, write_exact, write_out};
+use kb_path_words::{Text, write_out};
 use kb_picture::{Made, Out};
-use kb_world::{FieldSlot, World};
+use kb_semantics::{FieldSlot, World};
 
 pub(crate) fn write_made(text: &mut Text, world: &World, made: &[Made]) -> Result<(), NoMemory>
     ensures { OnOk result (text.new ≡ text.old ++ lines_text (numbered_lines (made_line world.now) 0 made.now)) }
@@ -34,7 +34,7 @@ fn write_made_line(
     text.put("n")?;
     text.count(number)?;
     text.put(" ")?;
-    write_exact(text, &made.kind)?;
+    text.exact(&made.kind)?;
     write_values(text, world, made)?;
     text.end_line()
 }

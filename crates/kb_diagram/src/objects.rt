@@ -11,9 +11,9 @@ use crate::NoMemory;
 use crate::cells::{Cell, Slot, write_held};
 use crate::fronts::{begin_element, begin_field};
 use kb_names::ExactType;
-use kb_path_words::{Text, write_exact};
+use kb_path_words::Text;
 use kb_picture::{Length, PicObject};
-use kb_world::{FieldSlot, World};
+use kb_semantics::{FieldSlot, World};
 use std::collections::HashMap;
 
 pub(crate) fn write_objects(
@@ -43,7 +43,7 @@ fn write_object_line(
     text.put("o")?;
     text.count(number)?;
     text.put(" ")?;
-    write_exact(text, &object.kind)?;
+    text.exact(&object.kind)?;
     write_cells(text, world, cells, number, object)?;
     text.end_line()
 }

@@ -1,7 +1,7 @@
 -- A step lists one undecided path more only where the oracle has counted one.
 use Rattle.std.proofs.Common.{◌≡◌, ℕ, suc, ◌+◌, ◌≤◌, Bool, true, false, List, [], ◌∷◌, ◌++◌, refl, sym, subst, arith}
 use Rattle.kb_heap.specs.declared.bounds.Bounds.{Bounds}
-use Rattle.kb_link.specs.World.{World}
+use Rattle.kb_classes.specs.World.{World}
 use Rattle.kb_oracle.specs.declared.answer.Answer.TheVariants.{Model, Refuted, Undecided as UndecidedAnswer}
 use Rattle.kb_picture.specs.declared.choice.Choice.{Choice}
 use Rattle.kb_picture.specs.declared.path.Leaf.TheVariants.{Undecided, Ended as EndedLeaf, Cut as CutLeaf, Open as OpenLeaf}
@@ -18,6 +18,7 @@ use Rattle.kb_drive.specs.declared.walk.Walk.{Walk}
 use Rattle.kb_drive.specs.Counts.{RoseBy, is_undecided, undecided_count}
 use Rattle.kb_drive.specs.Following.{HasCounted, follows, follows_outcome, input_of_piece, listed_with, path_of_piece, waits_at, walk_with}
 use Rattle.kb_frames_laws.specs.Endings.{ended_in}
+use Rattle.kb_drive.specs.Running.{ran_behind}
 use Rattle.kb_drive.specs.Taking.{choices_at}
 use Rattle.kb_drive.specs.Walks.{KeepsCount}
 use Rattle.kb_drive.proofs.OpenLaws.{count_more}
@@ -49,10 +50,12 @@ unfolding path_of
 keeps_count world bounds walk waiting taken Open unsure now counted later =
     kept_count walk (walk_with (record walk { waiting = waiting }) (follows world bounds taken Open)) unsure now (let more = one_more walk.listed (path_of_piece taken.piece OpenLeaf) false refl in omega (arith, more)) later
 keeps_count world bounds walk waiting taken Met unsure now counted later =
-    kept_count walk (walk_with (record walk { waiting = waiting }) (follows world bounds taken Met)) unsure now (outcome_same world bounds walk.listed taken.piece taken.outcome) later
+    kept_count walk (walk_with (record walk { waiting = waiting }) (follows world bounds taken Met)) unsure now (outcome_same world bounds walk.listed (record taken.piece { state = (ran_behind world bounds taken.piece.state taken.outcome).state }) (ran_behind world bounds taken.piece.state taken.outcome).outcome)
+    later
 keeps_count world bounds walk waiting taken (Answered (Model values)) unsure now counted later =
     kept_count walk (walk_with (record walk { waiting = waiting }) (follows world bounds taken (Answered (Model values)))) unsure now
-    (outcome_same world bounds walk.listed (record taken.piece { values = values }) taken.outcome) later
+    (outcome_same world bounds walk.listed (record taken.piece { state = (ran_behind world bounds taken.piece.state taken.outcome).state; values = values }) (ran_behind world bounds taken.piece.state taken.outcome).outcome)
+    later
 keeps_count world bounds walk waiting taken (Answered (Refuted log)) unsure now counted later =
     kept_count walk (walk_with (record walk { waiting = waiting }) (follows world bounds taken (Answered (Refuted log)))) unsure now refl later
 keeps_count world bounds walk waiting taken (Answered (UndecidedAnswer log)) unsure now counted later =

@@ -2,7 +2,7 @@
 use Rattle.std.proofs.Common.{◌≡◌, ℕ, false, List, [], ◌∷◌, length, map, drop, slice_get, Option, Some, None, inl, refl, sym, ◌∙◌, subst, arith, take_all}
 use Rattle.kb_heap.specs.declared.bounds.Bounds.{Bounds}
 use Rattle.kb_heap.specs.declared.heap.Input.{Input}
-use Rattle.kb_link.specs.World.{World}
+use Rattle.kb_classes.specs.World.{World}
 use Rattle.kb_oracle.specs.declared.answer.Answer.{Answer}
 use Rattle.kb_semantics.specs.Inputs.{IsTypeCorrect}
 use Rattle.kb_picture.specs.Exactly.{NoneHas}

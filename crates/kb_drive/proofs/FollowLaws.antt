@@ -1,5 +1,5 @@
 -- What follows an alternative: its paths are right, its pieces wait rightly, and its inputs are divided among them.
-use Rattle.std.proofs.Common.{◌≡◌, ℕ, suc, ◌<◌, ◌≤◌, ℤ, List, [], ◌∷◌, length, map, take, refl, sym, subst, arith, append-nil}
+use Rattle.std.proofs.Common.{◌≡◌, ◌↔◌, ℕ, suc, ◌<◌, ◌≤◌, ℤ, List, [], ◌∷◌, length, map, take, refl, sym, subst, arith, append-nil}
 use Rattle.kb_blast.specs.Conditions.{formula_of}
 use Rattle.kb_blast.specs.Query.{query_of}
 use Rattle.kb_chain.specs.Chains.{IsRefutation}
@@ -7,7 +7,7 @@ use Rattle.kb_chain.specs.declared.log.Chain.{Chain}
 use Rattle.kb_class.specs.declared.ids.MethodId.{MethodId}
 use Rattle.kb_heap.specs.declared.bounds.Bounds.{Bounds}
 use Rattle.kb_heap.specs.declared.heap.Input.{Input}
-use Rattle.kb_link.specs.World.{World}
+use Rattle.kb_classes.specs.World.{World}
 use Rattle.kb_oracle.specs.declared.answer.Answer.TheVariants.{Model, Refuted, Undecided as UndecidedAnswer}
 use Rattle.kb_semantics.specs.Inputs.{IsTypeCorrect}
 use Rattle.kb_picture.specs.declared.choice.Choice.{Choice}
@@ -27,7 +27,8 @@ use Rattle.kb_drive.specs.declared.follow.Known.TheVariants.{Open, Met, Answered
 use Rattle.kb_drive.specs.declared.follow.Next.{Next}
 use Rattle.kb_drive.specs.declared.follow.Next.TheVariants.{Lists, Waits as WaitsNext, Leaves}
 use Rattle.kb_drive.specs.EmittedLaws.{InputsAreOfStates, IsOfState, input_for}
-use Rattle.kb_drive.specs.Following.{IsKnown, follows, follows_outcome, taken_from, waits_at}
+use Rattle.kb_drive.specs.Following.{IsKnown, IsReachedBehind, follows, follows_on, follows_outcome, taken_from, waits_at}
+use Rattle.kb_drive.specs.Running.{AreReachedOn, IfGoesOn, ran_behind}
 use Rattle.kb_drive.specs.Explorable.{IsExplorable}
 use Rattle.kb_drive.specs.Parts.{Alternative, IsInPart, Waits, decisions_of_part, taken_of}
 use Rattle.kb_drive.specs.Pieces.{AreValuesFor, IsBehind, IsPiece}
@@ -45,7 +46,8 @@ use Rattle.kb_drive.proofs.LeafLaws.{cut_right, ended_right, open_right, some_sh
 use Rattle.kb_drive.proofs.PathLaws.{path_is}
 use Rattle.kb_drive.proofs.PartLaws.{alternatives_begin, alternatives_rise, parts_behind}
 use Rattle.kb_oracle.proofs.AnswerLaws.{never-met}
-use Rattle.kb_drive.proofs.SettledLaws.{explored_with, leads_on, piece_behind, values_met, values_of_model}
+use Rattle.kb_drive.proofs.RunningLaws.{HasRunBehind, has_run_behind}
+use Rattle.kb_drive.proofs.SettledLaws.{behind_whole, leads_on, piece_behind, values_met, values_of_model, whole_met}
 use Rattle.kb_drive.proofs.SizeLaws.{size_split}
 use Rattle.kb_drive.proofs.WaitLaws.{listed_replaces, refuted_replaces, waiting_replaces}
 
@@ -82,13 +84,14 @@ module _ (steps : StepsLeadOn) (endings_mean : EndingsMean) (emits : InputsAreOf
     abbrev IsSucceeded : Next → Type 0
     IsSucceeded next = Succeeds world target bounds budget alternative next
 
-    -- a listed path, which is right and has the state's instances
-    listed : (count : ℕ) (values : List ℤ) (leaf : Leaf) → IsBehind world target bounds count values after → IsPathOf world after.state alternative.decisions leaf
-        → IsRightPath world target bounds budget (path_of after.state alternative.decisions leaf) → IsSucceeded (Lists (path_of after.state alternative.decisions leaf))
+    -- a listed path, which is right and has the instances of the state behind the alternative
+    listed : (state : State) → ((input : Input) → IsTypeCorrect world target input → IsInstanceOf after.state input ↔ IsInstanceOf state input) → (leaf : Leaf)
+        → IsPathOf world state alternative.decisions leaf → IsRightPath world target bounds budget (path_of state alternative.decisions leaf)
+        → IsSucceeded (Lists (path_of state alternative.decisions leaf))
     unfolding path_of
-    listed count values leaf behind means right = record {
+    listed state same leaf means right = record {
       right = right;
-      inputs = λ input correct. listed_replaces world target bounds alternative input correct leaf means;
+      inputs = λ input correct. listed_replaces world target bounds alternative input correct state (same input correct) leaf means;
       begins = (([], sym (append-nil alternative.decisions)), tt);
       rising = (tt, tt);
       fewer = some_behind world bounds after.state after.outcome;
@@ -106,73 +109,75 @@ module _ (steps : StepsLeadOn) (endings_mean : EndingsMean) (emits : InputsAreOf
 
     -- ---- where values meet all conditions
 
-    module _ (count : ℕ) (before values : List ℤ) (behind : IsBehind world target bounds count before after) (met : AreValuesFor after.state.nodes after.state.when values) where
-      -- with those values
-      whole : IsBehind world target bounds (length after.state.when) values after
-      whole = record {
-        explored = explored_with world target bounds after.state count before values behind.explored met;
-        reached = behind.reached;
-        leads = behind.leads;
-        picture = behind.picture;
-        ending = behind.ending;
-        outcomes = behind.outcomes;
-      }
+    -- what the piece has become behind the alternative
+    module _ (values : List ℤ) (ran : Take) (run : HasRunBehind steps world bounds explorable.range target values after ran) where
+      met : AreValuesFor ran.state.nodes ran.state.when values
+      met = whole_met world target bounds values ran run.behind
 
       abbrev piece : Piece
-      piece = record { state = after.state; decisions = alternative.decisions; values = values }
+      piece = record { state = ran.state; decisions = alternative.decisions; values = values }
 
-      carried : IsOfState world after.state (take (length after.state.when) after.state.when) (input_for world after.state values)
-      carried = some_short endings_mean emits one_places world target bounds explorable (length after.state.when) values after whole
+      carried : IsOfState world ran.state (take (length ran.state.when) ran.state.when) (input_for world ran.state values)
+      carried = some_short endings_mean emits one_places world target bounds explorable (length ran.state.when) values ran run.behind
 
-      -- it goes on, and waits at its next choice
-      waits : (choices : List Choice) → choices ≡ choices_at world bounds after.state → GoesOn after.outcome → (suc (size_of world bounds after.state) ≡ size_behind (size_of world bounds) after.state after.outcome)
+      -- it waits at its next choice
+      waits : (choices : List Choice) → choices ≡ choices_at world bounds ran.state → GoesOn ran.outcome → (suc (size_of world bounds ran.state) ≡ size_behind (size_of world bounds) ran.state ran.outcome)
           → IsSucceeded (waits_at piece choices)
       waits choices same goes size = by_choices choices same
         where
           is_piece : IsPiece world target bounds piece
-          is_piece = piece_behind world target bounds count before values alternative.decisions after behind goes met
+          is_piece = piece_behind world target bounds (length ran.state.when) values values alternative.decisions ran run.behind goes met
 
-          leads : StepsLead world bounds after.state
-          leads = steps world bounds after.state explorable.range (leads_on world after.state after.outcome goes behind.leads)
+          leads : StepsLead world bounds ran.state
+          leads = steps world bounds ran.state explorable.range (leads_on world ran.state ran.outcome goes run.behind.leads)
 
-          divided : (input : Input) → IsTypeCorrect world target input → Replaces (IsInPart world bounds) input (Waits alternative ∷ []) (parts_behind (waits_at piece (choices_at world bounds after.state)))
-          divided input correct = waiting_replaces world target bounds alternative input correct values is_piece leads
+          divided : (input : Input) → IsTypeCorrect world target input → Replaces (IsInPart world bounds) input (Waits alternative ∷ []) (parts_behind (waits_at piece (choices_at world bounds ran.state)))
+          divided input correct = waiting_replaces world target bounds alternative input correct ran.state (run.inputs input correct) values is_piece leads
 
-          less : size_of_choices world bounds (size_of world bounds) after.state (choices_at world bounds after.state) ≤ size_of world bounds after.state
-          less = size_split world bounds after.state leads
+          less : size_of_choices world bounds (size_of world bounds) ran.state (choices_at world bounds ran.state) ≤ size_of world bounds ran.state
+          less = size_split world bounds ran.state leads
 
-          by_choices : (cs : List Choice) → cs ≡ choices_at world bounds after.state → IsSucceeded (waits_at piece cs)
+          by_choices : (cs : List Choice) → cs ≡ choices_at world bounds ran.state → IsSucceeded (waits_at piece cs)
           by_choices [] e = record {
             right = tt;
             inputs = λ input correct. subst (λ (l : List Choice). Replaces (IsInPart world bounds) input (Waits alternative ∷ []) (parts_behind (waits_at piece l))) (sym e) (divided input correct);
             begins = tt;
             rising = tt;
-            fewer = omega (arith, size);
+            fewer = some_behind world bounds after.state after.outcome;
           }
           by_choices (c ∷ cs) e = record {
             right = record { piece = is_piece; choices = e; left = omega arith };
             inputs = λ input correct. subst (λ (l : List Choice). Replaces (IsInPart world bounds) input (Waits alternative ∷ []) (parts_behind (waits_at piece l))) (sym e) (divided input correct);
             begins = alternatives_begin piece (length (c ∷ cs)) 0 (c ∷ cs);
             rising = alternatives_rise piece (c ∷ cs);
-            fewer = (let all : size_of_choices world bounds (size_of world bounds) after.state (c ∷ cs) ≤ size_of world bounds after.state = subst (λ (l : List Choice). size_of_choices world bounds (size_of world bounds) after.state l ≤ size_of world bounds after.state) (sym e) less in omega (arith, all, size));
+            fewer = (let all : size_of_choices world bounds (size_of world bounds) ran.state (c ∷ cs) ≤ size_of world bounds ran.state = subst (λ (l : List Choice). size_of_choices world bounds (size_of world bounds) ran.state l ≤ size_of world bounds ran.state) (sym e) less in omega (arith, all, size, run.fewer));
           }
 
-      ended_known : (ending : SymEnding) → after.outcome ≡ Ends ending → HasNoLocBeyond after.state.picture
-      ended_known ending same = (let goes_on : IsHeapReached world after.state = rw same at behind.leads in none_beyond after.state.picture goes_on.known)
+      ended_known : (ending : SymEnding) → ran.outcome ≡ Ends ending → HasNoLocBeyond ran.state.picture
+      ended_known ending same = (let goes_on : IsHeapReached world ran.state = rw same at run.behind.leads in none_beyond ran.state.picture goes_on.known)
 
-      settled : (outcome : Outcome) → after.outcome ≡ outcome → IsSucceeded (follows_outcome world bounds piece outcome)
-      settled Asks same = waits (choices_at world bounds after.state) refl (rw same tt) (rw same refl)
-      settled Goes same = waits (choices_at world bounds after.state) refl (rw same tt) (rw same refl)
+      settled : (outcome : Outcome) → ran.outcome ≡ outcome → IsSucceeded (follows_outcome world bounds piece outcome)
+      settled Asks same = waits (choices_at world bounds ran.state) refl (rw same tt) (rw same refl)
+      settled Goes same = waits (choices_at world bounds ran.state) refl (rw same tt) (rw same refl)
       settled (Ends ending) same =
-          let ends = endings_mean world after.state alternative.decisions ending (input_for world after.state values) behind.explored.formed
-          (ended_known ending same) (rw same at behind.ending) carried.closed in
-          let means = path_is world after.state alternative.decisions (EndedLeaf (ended_in after.state ending (input_for world after.state values))) behind.explored.formed ends.leaf in
-          listed (length after.state.when) values (EndedLeaf (ended_in after.state ending (input_for world after.state values))) whole means
-          (ended_right endings_mean emits one_places world target bounds explorable budget values after alternative.decisions ending same whole ends means)
+          let ends = endings_mean world ran.state alternative.decisions ending (input_for world ran.state values) run.behind.explored.formed
+          (ended_known ending same) (rw same at run.behind.ending) carried.closed in
+          let means = path_is world ran.state alternative.decisions (EndedLeaf (ended_in ran.state ending (input_for world ran.state values))) run.behind.explored.formed ends.leaf in
+          listed ran.state run.inputs (EndedLeaf (ended_in ran.state ending (input_for world ran.state values))) means
+          (ended_right endings_mean emits one_places world target bounds explorable budget values ran alternative.decisions ending same run.behind ends means)
       settled (Cut bound) same =
-          let means = path_is world after.state alternative.decisions (CutLeaf bound (input_for world after.state values)) behind.explored.formed carried.closed in
-          listed (length after.state.when) values (CutLeaf bound (input_for world after.state values)) whole means
-          (cut_right endings_mean emits one_places world target bounds explorable budget values after alternative.decisions bound same whole means)
+          let means = path_is world ran.state alternative.decisions (CutLeaf bound (input_for world ran.state values)) run.behind.explored.formed carried.closed in
+          listed ran.state run.inputs (CutLeaf bound (input_for world ran.state values)) means
+          (cut_right endings_mean emits one_places world target bounds explorable budget values ran alternative.decisions bound same run.behind means)
+
+    -- it goes on from behind the alternative as long as nothing is chosen
+    went_on : (count : ℕ) (before values : List ℤ) → IsBehind world target bounds count before after → AreValuesFor after.state.nodes after.state.when values
+        → IfGoesOn after.outcome (AreReachedOn world bounds after.state)
+        → IsSucceeded (follows_on world bounds (record { state = after.state; decisions = alternative.decisions; values = values }) after.outcome)
+    went_on count before values behind met way =
+        let whole : IsBehind world target bounds (length after.state.when) values after = behind_whole world target bounds count before values after behind met in
+        let ran : Take = ran_behind world bounds after.state after.outcome in
+        settled values ran (has_run_behind steps world bounds explorable.range target values after whole after.outcome refl way) ran.outcome refl
 
     -- ---- what is known
 
@@ -186,20 +191,25 @@ module _ (steps : StepsLeadOn) (endings_mean : EndingsMean) (emits : InputsAreOf
         (kinds_fit world after.state input behind.explored.formed (subst (λ (m : MethodId). IsTypeCorrect world m input) (sym behind.explored.method) correct) instance_of.shape)
         instance_of.conditions
 
+    -- the same inputs
+    as_before : (input : Input) → IsTypeCorrect world target input → IsInstanceOf after.state input ↔ IsInstanceOf after.state input
+    as_before input correct = (λ instance_of. instance_of, λ instance_of. instance_of)
+
     -- By cases on what is known.
     pub follows_rightly : (known : Known) → IsBehind world target bounds (length alternative.piece.state.when) alternative.piece.values after
-        → IsKnown budget (taken_from world bounds alternative) known → IsSucceeded (follows world bounds (taken_from world bounds alternative) known)
-    follows_rightly Open behind is =
+        → IsKnown budget (taken_from world bounds alternative) known → IsReachedBehind world bounds (taken_from world bounds alternative) known
+        → IsSucceeded (follows world bounds (taken_from world bounds alternative) known)
+    follows_rightly Open behind is way =
         let means = path_is world after.state alternative.decisions OpenLeaf behind.explored.formed tt in
-        listed (length alternative.piece.state.when) alternative.piece.values OpenLeaf behind means
+        listed after.state as_before OpenLeaf means
         (open_right endings_mean emits one_places world target bounds explorable (length alternative.piece.state.when) budget alternative.piece.values after alternative.decisions behind means)
-    follows_rightly Met behind is =
-        settled (length alternative.piece.state.when) alternative.piece.values alternative.piece.values behind
-        (values_met world target bounds (length alternative.piece.state.when) alternative.piece.values after behind is) after.outcome refl
-    follows_rightly (Answered (Model values)) behind is =
-        settled (length alternative.piece.state.when) alternative.piece.values values behind (values_of_model world target bounds after.state values is.0 is.1) after.outcome refl
-    follows_rightly (Answered (Refuted log)) behind is = left (refuted (length alternative.piece.state.when) alternative.piece.values log.entries behind is.0)
-    follows_rightly (Answered (UndecidedAnswer log)) behind is =
+    follows_rightly Met behind is way =
+        went_on (length alternative.piece.state.when) alternative.piece.values alternative.piece.values behind
+        (values_met world target bounds (length alternative.piece.state.when) alternative.piece.values after behind is) way
+    follows_rightly (Answered (Model values)) behind is way =
+        went_on (length alternative.piece.state.when) alternative.piece.values values behind (values_of_model world target bounds after.state values is.0 is.1) way
+    follows_rightly (Answered (Refuted log)) behind is way = left (refuted (length alternative.piece.state.when) alternative.piece.values log.entries behind is.0)
+    follows_rightly (Answered (UndecidedAnswer log)) behind is way =
         let means = path_is world after.state alternative.decisions (Undecided log) behind.explored.formed tt in
-        listed (length alternative.piece.state.when) alternative.piece.values (Undecided log) behind means
+        listed after.state as_before (Undecided log) means
         (undecided_right endings_mean emits one_places world target bounds explorable (length alternative.piece.state.when) budget alternative.piece.values after alternative.decisions log behind means is.0)

@@ -7,7 +7,7 @@ use Rattle.kb_blast.specs.Query.{AreConditions}
 use Rattle.kb_class.specs.declared.ids.MethodId.{MethodId}
 use Rattle.kb_heap.specs.declared.heap.Input.{Input}
 use Rattle.kb_heap.specs.declared.heap.Value.{Value}
-use Rattle.kb_link.specs.World.{World}
+use Rattle.kb_classes.specs.World.{World}
 use Rattle.kb_oracle.proofs.Queries.{length-kinds}
 use Rattle.kb_terms.specs.Op.{is_binary}
 use Rattle.kb_terms.specs.Terms.{Extends, IsPool, IsSecond, IsTerm, int_at, node_at, value_of, values, variables_of}

@@ -5,7 +5,7 @@ use Rattle.kb_class.specs.declared.ids.MethodId.{MethodId}
 use Rattle.kb_class.specs.Naming.{Has}
 use Rattle.kb_code.specs.declared.instruction.Instr.{Instr}
 use Rattle.kb_heap.specs.declared.bounds.Bounds.{Bounds}
-use Rattle.kb_link.specs.World.{World}
+use Rattle.kb_classes.specs.World.{World}
 use Rattle.kb_semantics.specs.Config.{instruction_at}
 use Rattle.kb_lazy.specs.Laws.{AreInRange}
 use Rattle.kb_terms.specs.Terms.{IsPool}

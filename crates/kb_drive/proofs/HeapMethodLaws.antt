@@ -8,12 +8,12 @@ use Rattle.kb_class.specs.declared.members.MethodCode.{MethodCode}
 use Rattle.kb_class.specs.declared.members.MethodInfo.{MethodInfo}
 use Rattle.kb_code.specs.declared.instruction.Instr.{Instr}
 use Rattle.kb_link.specs.Links.{IsLinked}
-use Rattle.kb_link.specs.Slots.{has_slot_type}
-use Rattle.kb_link.specs.World.{World}
+use Rattle.kb_classes.specs.Slots.{has_slot_type}
+use Rattle.kb_classes.specs.World.{World}
 use Rattle.kb_names.specs.declared.types.JType.{JType}
 use Rattle.kb_names.specs.declared.types.JType.TheVariants as types
 use Rattle.kb_semantics.specs.Config.{info_of, instruction_at, instruction_in}
-use Rattle.kb_world.specs.Faults.{is_left_out}
+use Rattle.kb_resolution.specs.LeftOut.{is_left_out}
 use Rattle.kb_picture.specs.declared.choice.Init.TheVariants.{Lazy}
 use Rattle.kb_frames.specs.State.{start_state}
 use Rattle.kb_frames.specs.States.{IsState}

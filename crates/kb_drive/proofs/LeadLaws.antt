@@ -10,7 +10,7 @@ use Rattle.kb_code.specs.declared.instruction.Instr.{Instr}
 use Rattle.kb_heap.specs.declared.bounds.Bound.TheVariants.{Steps}
 use Rattle.kb_heap.specs.declared.bounds.Bounds.{Bounds}
 use Rattle.kb_heap.specs.declared.heap.Input.{Input}
-use Rattle.kb_link.specs.World.{World}
+use Rattle.kb_classes.specs.World.{World}
 use Rattle.kb_semantics.specs.Config.{has_room, instruction_at}
 use Rattle.kb_semantics.specs.Ways.{counted}
 use Rattle.kb_picture.specs.declared.choice.Choice.{Choice}

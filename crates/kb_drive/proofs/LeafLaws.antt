@@ -8,7 +8,7 @@ use Rattle.kb_class.specs.declared.ids.MethodId.{MethodId}
 use Rattle.kb_heap.specs.declared.bounds.Bound.{Bound}
 use Rattle.kb_heap.specs.declared.bounds.Bounds.{Bounds}
 use Rattle.kb_heap.specs.declared.heap.Input.{Input}
-use Rattle.kb_link.specs.World.{World}
+use Rattle.kb_classes.specs.World.{World}
 use Rattle.kb_oracle.specs.Answers.{LeavesOpen}
 use Rattle.kb_semantics.specs.Inputs.{IsTypeCorrect}
 use Rattle.kb_semantics.specs.Step.{run_of}
@@ -98,6 +98,7 @@ module _ (endings_mean : EndingsMean) (emits : InputsAreOfStates) (one_places : 
     unfolding path_of
     open_right count budget values after decisions behind means = record {
       formed = subst (λ (m : MethodId). IsWellFormed world m (path_of after.state decisions Open)) behind.explored.method means.formed;
+      found = means.found;
       ending = λ ended input e correct instance_of. absurd cc;
       cut = λ bound carried input e correct instance_of. absurd cc;
       carried = λ input e. absurd cc;
@@ -131,6 +132,7 @@ module _ (endings_mean : EndingsMean) (emits : InputsAreOfStates) (one_places : 
     unfolding path_of
     undecided_right count budget values after decisions log behind means left = record {
       formed = subst (λ (m : MethodId). IsWellFormed world m (path_of after.state decisions (Undecided log))) behind.explored.method means.formed;
+      found = means.found;
       ending = λ ended input e correct instance_of. absurd cc;
       cut = λ bound carried input e correct instance_of. absurd cc;
       carried = λ input e. absurd cc;
@@ -167,6 +169,7 @@ module _ (endings_mean : EndingsMean) (emits : InputsAreOfStates) (one_places : 
     unfolding path_of
     cut_right budget values after decisions bound is behind means = record {
       formed = subst (λ (m : MethodId). IsWellFormed world m (path_of after.state decisions leaf)) behind.explored.method means.formed;
+      found = means.found;
       ending = λ ended input e correct instance_of. absurd cc;
       cut = λ other carried input e correct instance_of. (let same : bound ≡ other = cc in subst (λ (b : Bound). IsLicensed world target bounds after.state.picture b input) same (licensed input correct instance_of));
       carried = λ input e. emitted_is values after decisions leaf behind means input cc;
@@ -193,6 +196,7 @@ module _ (endings_mean : EndingsMean) (emits : InputsAreOfStates) (one_places : 
     unfolding path_of
     ended_right budget values after decisions ending is behind ending_means means = record {
       formed = subst (λ (m : MethodId). IsWellFormed world m (path_of after.state decisions leaf)) behind.explored.method means.formed;
+      found = means.found;
       ending = λ other input e correct instance_of. (let same : numbered_ended after.state.nodes (path_numbering after.state leaf) (ended_in after.state ending (input_for world after.state values)) ≡ other = cc in
           subst (λ (it : Ended). run_of (setting_of world bounds) target input ≡ stated_end world (path_of after.state decisions leaf) it input) same (ends input correct instance_of));
       cut = λ bound carried input e correct instance_of. absurd cc;

@@ -21,7 +21,10 @@ pub mod PathLaws
 pub mod PieceLaws
 pub mod ReferenceEnds
 pub mod ReferenceLeads
+pub mod RanLaws
 pub mod RunLaws
+pub mod RunningLaws
+pub mod TurnLaws
 pub mod SettledLaws
 pub mod SizeLaws
 pub mod SourceLaws

@@ -6,8 +6,8 @@ use Rattle.kb_code.specs.declared.instruction.Instr.{Instr}
 use Rattle.kb_code.specs.declared.instruction.Instr.TheVariants as instrs
 use Rattle.kb_heap.specs.declared.bounds.Bound.{Bound}
 use Rattle.kb_heap.specs.declared.bounds.Bounds.{Bounds}
-use Rattle.kb_link.specs.World.{World}
-use Rattle.kb_link.specs.declared.slots.FieldSlot.{FieldSlot}
+use Rattle.kb_classes.specs.World.{World}
+use Rattle.kb_classes.specs.declared.slots.FieldSlot.{FieldSlot}
 use Rattle.kb_semantics.specs.Config.{has_room, instruction_at}
 use Rattle.kb_picture.specs.declared.picture.Origin.{Origin}
 use Rattle.kb_picture.specs.declared.picture.Origin.TheVariants.{Arg, Field, Element}
@@ -22,9 +22,10 @@ use Rattle.kb_frames.specs.State.{State}
 use Rattle.kb_frames.specs.States.{Each, IsOutIn, IsStage, IsSymValue}
 use Rattle.kb_ways.specs.Ways.{with_stack, Take, Fails, ill_typed}
 use Rattle.kb_ways.proofs.GrowLaws.{if_has, option_has}
-use Rattle.kb_ways.proofs.ItemLaws.{option_has_at}
+use Rattle.kb_frames.proofs.ItemLaws.{option_has_at}
 use Rattle.kb_ways.proofs.SoundLaws.{begun_sound, sound_reached}
-use Rattle.kb_stepref.specs.Choices.{alternatives, only}
+use Rattle.kb_stepref.specs.Choices.{alternatives}
+use Rattle.kb_ways.specs.Advancing.{only}
 use Rattle.kb_ways.specs.Plans.{Planned, plain, planned, carried_out, takes_next, takes_up, returns_value}
 use Rattle.kb_stepref.specs.Effects.{branch_where, got, in_local, is_local, plan_of, put, put_where, puts_kept}
 use Rattle.kb_stepref.specs.Fields.{field_named, has_place, held}

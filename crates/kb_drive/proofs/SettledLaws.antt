@@ -5,7 +5,7 @@ use Rattle.kb_blast.specs.Query.{query_of}
 use Rattle.kb_class.specs.declared.ids.MethodId.{MethodId}
 use Rattle.kb_heap.specs.declared.bounds.Bounds.{Bounds}
 use Rattle.kb_heap.specs.declared.heap.Input.{Input}
-use Rattle.kb_link.specs.World.{World}
+use Rattle.kb_classes.specs.World.{World}
 use Rattle.kb_oracle.specs.Answers.{IsModelOf}
 use Rattle.kb_semantics.specs.Inputs.{IsTypeCorrect}
 use Rattle.kb_semantics.specs.Step.{start_of}
@@ -59,7 +59,7 @@ whole_has world bounds init target input = (start_stands (setting_of world bound
 
 module _ (world : World) (target : MethodId) (bounds : Bounds) where
   -- a state that goes on stands for a configuration of the run of each of its instances
-  stands_on : (after : Take) (outcome : Outcome) → after.outcome ≡ outcome → GoesOn outcome
+  pub stands_on : (after : Take) (outcome : Outcome) → after.outcome ≡ outcome → GoesOn outcome
       → ((input : Input) → IsTypeCorrect world target input → (instance_of : IsInstanceOf after.state input) → HasOutcome world target bounds after input instance_of)
       → StandsForEach world target bounds after.state
   stands_on after Asks same goes outcomes input correct instance_of = let h = outcomes input correct instance_of in (h.config, rw same at h.outcome)
@@ -91,6 +91,23 @@ module _ (world : World) (target : MethodId) (bounds : Bounds) where
     compared = λ input correct whole. is.compared input correct (short_of state count input whole);
     read = is.read;
   }
+
+  -- behind an alternative, with values that meet all its conditions
+  pub behind_whole : (count : ℕ) (before values : List ℤ) (after : Take) → IsBehind world target bounds count before after → AreValuesFor after.state.nodes after.state.when values
+      → IsBehind world target bounds (length after.state.when) values after
+  behind_whole count before values after behind met = record {
+    explored = explored_with after.state count before values behind.explored met;
+    reached = behind.reached;
+    leads = behind.leads;
+    picture = behind.picture;
+    ending = behind.ending;
+    outcomes = behind.outcomes;
+  }
+
+  -- and back: the values that meet all conditions
+  pub whole_met : (values : List ℤ) (after : Take) → IsBehind world target bounds (length after.state.when) values after → AreValuesFor after.state.nodes after.state.when values
+  whole_met values after behind =
+      subst (λ (when : List (TermId × Bool)). AreValuesFor after.state.nodes when values) (take_all (length after.state.when) after.state.when (omega arith)) behind.explored.met
 
   -- a model of the query, which meets the conditions in the pool
   pub values_of_model : (state : State) (values : List ℤ) → IsModelOf (query_of state.nodes state.when) values → AreMetInPool state.nodes values state.when

@@ -6,7 +6,7 @@ use Rattle.kb_chain.specs.declared.log.Log.{Log}
 use Rattle.kb_class.specs.declared.ids.MethodId.{MethodId}
 use Rattle.kb_heap.specs.declared.bounds.Bounds.{Bounds}
 use Rattle.kb_heap.specs.declared.heap.Input.{Input}
-use Rattle.kb_link.specs.World.{World}
+use Rattle.kb_classes.specs.World.{World}
 use Rattle.kb_oracle.specs.declared.answer.Answer.{Answer}
 use Rattle.kb_oracle.specs.declared.answer.Answer.TheVariants.{Model, Refuted, Undecided}
 use Rattle.kb_terms.specs.Terms.{variables_of}
@@ -15,6 +15,7 @@ use Rattle.kb_picture.specs.WellFormed.{variables_seen}
 use Rattle.kb_picture.specs.declared.path.Path.{Path}
 use Rattle.kb_outside.specs.Outside.{Rose}
 use Rattle.kb_picture.specs.declared.choice.Choice.{Choice}
+use Rattle.kb_frames.specs.State.{State}
 use Rattle.kb_frames.specs.States.{IsState}
 use Rattle.kb_frames.specs.declared.value.Outcome.{Outcome}
 use Rattle.kb_frames.specs.declared.value.Outcome.TheVariants.{Asks, Goes, Ends, Cut}
@@ -29,11 +30,11 @@ use Rattle.kb_drive.specs.declared.walk.Walk.{Walk}
 use Rattle.kb_drive.specs.Counts.{RoseBy}
 use Rattle.kb_picture.specs.Carried.{input_carried}
 use Rattle.kb_input.specs.Emitted.{emitted_input}
-use Rattle.kb_drive.specs.Values.{followed_by_zeros}
-use Rattle.kb_drive.specs.Following.{follows, follows_outcome, given_after, has_more, input_of_piece, path_of_piece, waits_at, waits_on, walk_with}
+use Rattle.kb_drive.specs.Values.{followed_by_zeros, AreGiven, CarriesGiven, HaveValuesFrom, OfGiven, log_of, logs_given, logs_of}
+use Rattle.kb_drive.specs.Following.{follows, follows_outcome, given_after, has_more, input_of_piece, path_of_piece, waits_at, waits_on, walk_with, IfMet}
 use Rattle.kb_frames_laws.specs.Endings.{ended_in}
+use Rattle.kb_drive.specs.Running.{ran_behind}
 use Rattle.kb_drive.specs.Taking.{choices_at}
-use Rattle.kb_drive.specs.Values.{AreGiven, CarriesGiven, HaveValuesFrom, OfGiven, log_of, logs_given, logs_of}
 use Rattle.kb_drive.specs.Walks.{EachWaiting, IsFrom}
 use Rattle.kb_drive.proofs.GrowLaws.{variables_of_state}
 use Rattle.kb_drive.proofs.OpenLaws.{each_more}
@@ -194,31 +195,38 @@ module _ (world : World) (bounds : Bounds) (walk : Walk) (waiting : List Waiting
   unfolding path_of
   open_from piece = record { paths = listed_more world walk.target walk.listed answers (path_of_piece piece OpenLeaf) paths refl (λ input e. absurd cc); pieces = pieces }
 
+-- a state of the method, as calls have left it
+pub record IsFormedOf (world : World) (target : MethodId) (state : State) : Type 0 where
+  pub formed : IsState world state
+  pub method : state.method ≡ target
+
 -- What the listed paths and the waiting pieces have from the answers they still have, with what was given in a step: an open
 -- path and one without new conditions take nothing new, a model is the values of what follows it, an undecided answer is the
 -- log of its path.
 pub sources_with : (world : World) (bounds : Bounds) (walk : Walk) (waiting : List Waiting) (taken : Taken) (known : Known) (answers : List Answer)
-    → IsState world taken.piece.state → taken.piece.state.method ≡ walk.target → AreGiven answers taken.piece.values
+    → IfMet known (IsFormedOf world walk.target (ran_behind world bounds taken.piece.state taken.outcome).state) → AreGiven answers taken.piece.values
     → HaveValuesFrom world walk.target walk.listed answers → EachWaiting (λ (one : Waiting). AreGiven answers one.piece.values) waiting
     → (now : List Answer) → Some now ≡ given_after (Some answers) known
     → IsFrom world (walk_with (record walk { waiting = waiting }) (follows world bounds taken known)) now
 unfolding path_of
-sources_with world bounds walk waiting taken Open answers formed method given paths pieces now same =
+sources_with world bounds walk waiting taken Open answers formed given paths pieces now same =
     let all : answers ≡ now = cc in subst (IsFrom world (walk_with (record walk { waiting = waiting }) (follows world bounds taken Open))) all (open_from world bounds walk waiting answers paths pieces taken.piece)
-sources_with world bounds walk waiting taken Met answers formed method given paths pieces now same =
+sources_with world bounds walk waiting taken Met answers formed given paths pieces now same =
     let all : answers ≡ now = cc in
     subst (IsFrom world (walk_with (record walk { waiting = waiting }) (follows world bounds taken Met))) all
-    (outcome_from world bounds walk waiting answers paths pieces taken.piece taken.outcome formed method given)
-sources_with world bounds walk waiting taken (Answered (Model values)) answers formed method given paths pieces now same =
+    (outcome_from world bounds walk waiting answers paths pieces (record taken.piece { state = (ran_behind world bounds taken.piece.state taken.outcome).state })
+    (ran_behind world bounds taken.piece.state taken.outcome).outcome formed.formed formed.method given)
+sources_with world bounds walk waiting taken (Answered (Model values)) answers formed given paths pieces now same =
     let all : answers ++ Model values ∷ [] ≡ now = cc in
     subst (IsFrom world (walk_with (record walk { waiting = waiting }) (follows world bounds taken (Answered (Model values))))) all
     (outcome_from world bounds walk waiting (answers ++ Model values ∷ []) (given_grows world walk.target walk.listed answers (Model values) paths refl) (given_on answers (Model values) waiting pieces)
-    (record taken.piece { values = values }) taken.outcome formed method (given_last answers values))
-sources_with world bounds walk waiting taken (Answered (Refuted log)) answers formed method given paths pieces now same =
+    (record taken.piece { state = (ran_behind world bounds taken.piece.state taken.outcome).state; values = values }) (ran_behind world bounds taken.piece.state taken.outcome).outcome
+    formed.formed formed.method (given_last answers values))
+sources_with world bounds walk waiting taken (Answered (Refuted log)) answers formed given paths pieces now same =
     let all : answers ++ Refuted log ∷ [] ≡ now = cc in
     subst (IsFrom world (walk_with (record walk { waiting = waiting }) (follows world bounds taken (Answered (Refuted log))))) all
     (record { paths = given_grows world walk.target walk.listed answers (Refuted log) paths refl; pieces = given_on answers (Refuted log) waiting pieces })
-sources_with world bounds walk waiting taken (Answered (Undecided log)) answers formed method given paths pieces now same =
+sources_with world bounds walk waiting taken (Answered (Undecided log)) answers formed given paths pieces now same =
     let all : answers ++ Undecided log ∷ [] ≡ now = cc in
     subst (IsFrom world (walk_with (record walk { waiting = waiting }) (follows world bounds taken (Answered (Undecided log))))) all
     (record {

@@ -3,21 +3,17 @@ use Rattle.std.proofs.Common.{◌≡◌, ℕ, List, [], ◌∷◌, ◌++◌, len
 use Rattle.kb_blast.specs.Query.{Query, query_of}
 use Rattle.kb_class.specs.declared.ids.MethodId.{MethodId}
 use Rattle.kb_heap.specs.declared.bounds.Bounds.{Bounds}
-use Rattle.kb_heap.specs.declared.heap.Input.{Input}
-use Rattle.kb_link.specs.World.{World}
+use Rattle.kb_classes.specs.World.{World}
 use Rattle.kb_oracle.specs.declared.answer.Answer.{Answer}
+use Rattle.kb_oracle.specs.declared.answer.Answer.TheVariants.{Model, Refuted, Undecided as UndecidedAnswer}
 use Rattle.kb_picture.specs.declared.choice.Choice.{Choice}
-use Rattle.kb_picture.specs.declared.path.Leaf.TheVariants.{Ended as EndedLeaf, Open as OpenLeaf}
+use Rattle.kb_picture.specs.declared.path.Leaf.TheVariants.{Open as OpenLeaf}
 use Rattle.kb_picture.specs.declared.path.Path.{Path}
-use Rattle.kb_picture.specs.WellFormed.{IsClosed}
-use Rattle.kb_terms.specs.Terms.{AreTerms}
-use Rattle.kb_frames.specs.declared.value.Outcome.{Outcome}
-use Rattle.kb_frames.specs.declared.value.Outcome.TheVariants.{Asks, Goes, Ends, Cut}
-use Rattle.kb_frames.specs.Paths.{path_of, path_roots}
+use Rattle.kb_frames.specs.Paths.{path_of}
 use Rattle.kb_frames.proofs.FormedPaths.{roots_are_terms}
 use Rattle.kb_ways.specs.Reached.{IsReached}
 use Rattle.kb_ways.specs.Ways.{Take}
-use Rattle.kb_drive.specs.Reached.{IsHeapReached}
+use Rattle.kb_drive.specs.Reached.{GoesOnReached}
 use Rattle.kb_drive.specs.declared.follow.Known.{Known}
 use Rattle.kb_drive.specs.declared.follow.Known.TheVariants.{Open, Met, Answered}
 use Rattle.kb_drive.specs.declared.follow.Next.{Next}
@@ -25,9 +21,9 @@ use Rattle.kb_drive.specs.declared.waiting.Taken.{Taken}
 use Rattle.kb_drive.specs.declared.waiting.Waiting.{Waiting}
 use Rattle.kb_drive.specs.declared.walk.Walk.{Walk}
 use Rattle.kb_drive.specs.Explorable.{IsExplorable}
-use Rattle.kb_drive.specs.Following.{CanFollow, CanFollowOutcome, IsAskedWithin, IsKnown, IsTakenFrom, IsTakenOf, StoodMet, alternative_next, follows, given_after, path_of_piece, taken_from, waits_on, walk_with}
+use Rattle.kb_drive.specs.Following.{CanFollow, IfMet, IsAskedWithin, IsKnown, IsReachedBehind, IsTakenFrom, IsTakenOf, StoodMet, alternative_next, follows, given_after, path_of_piece, taken_from, waits_on, walk_with}
 use Rattle.kb_drive.specs.Pieces.{IsBehind}
-use Rattle.kb_frames_laws.specs.Endings.{ended_in}
+use Rattle.kb_drive.specs.Running.{ran_behind}
 use Rattle.kb_drive.specs.Steps.{LeadsOn}
 use Rattle.kb_drive.specs.declared.stop.DriveStop.{DriveStop}
 use Rattle.kb_drive.specs.declared.stop.DriveStop.TheVariants.{Oracle, NoMemory}
@@ -35,14 +31,16 @@ use Rattle.kb_drive.specs.Stops.{IfOracle, IsRefused, IsUnserved}
 use Rattle.kb_drive.specs.Taking.{taken_at}
 use Rattle.kb_drive.specs.Values.{AreGiven, OfGiven}
 use Rattle.kb_drive.specs.Walks.{EachWaiting, IsFrom, IsRefined, IsWaiting, IsWalk, KeepsSources}
-use Rattle.kb_frames_laws.proofs.EndingLaws.{endings_mean, none_beyond}
+use Rattle.kb_frames_laws.proofs.EndingLaws.{endings_mean}
 use Rattle.kb_drive.proofs.GivenLaws.{one_places}
 use Rattle.kb_drive.proofs.InputLaws.{inputs_of_states}
 use Rattle.kb_drive.proofs.EachLeads.{steps_lead}
 use Rattle.kb_drive.proofs.LeafLaws.{unserved}
 use Rattle.kb_drive.proofs.PathLaws.{path_is}
 use Rattle.kb_drive.proofs.PieceLaws.{behind_piece}
-use Rattle.kb_drive.proofs.SourceLaws.{given_behind, given_more, sources_with}
+use Rattle.kb_drive.proofs.RanLaws.{can_follow_outcome}
+use Rattle.kb_drive.proofs.RunningLaws.{run_keeps_behind}
+use Rattle.kb_drive.proofs.SourceLaws.{IsFormedOf, given_behind, given_more, sources_with}
 use Rattle.kb_drive.proofs.StepLaws.{HasStepped, has_stepped}
 
 -- ---- nothing waits
@@ -90,14 +88,6 @@ was_taken world target bounds (first ∷ others) now taken each from = go (slice
     go None at of = absurd of
     go (Some choice) at of = record { first = first; others = others; choice = choice; waits = refl; at = at; is = of; now_is = from.1; waiting_is = each.0 }
 
--- an input without objects and arguments names no object that it has not
-no_input : Input
-no_input = record { heap = record { objects = [] }; args = [] }
-
-no_input_closed : IsClosed no_input
-unfolding no_input
-no_input_closed = record { arguments = λ i value at. absurd cc; objects = λ i j object value at there. absurd cc }
-
 module _ (world : World) (target : MethodId) (bounds : Bounds) (waiting now : List Waiting) (taken : Taken) (was : WasTaken world target bounds waiting now taken)
     (explorable : IsExplorable world target bounds) (reached : IsReached world taken.piece.state) where
   abbrev after : Take
@@ -114,21 +104,11 @@ module _ (world : World) (target : MethodId) (bounds : Bounds) (waiting now : Li
   behind : IsBehind world target bounds (length was.first.piece.state.when) was.first.piece.values after
   behind = behind_piece world target bounds was.first.piece was.waiting_is.piece after leads reached_behind
 
-  open_terms : AreTerms after.state.nodes (path_roots after.state OpenLeaf)
-  open_terms = roots_are_terms world after.state OpenLeaf reached_behind.sound tt
-
-  -- it can go on, or its path can be made, whatever input that carries
-  outcome_follows : (outcome : Outcome) → after.outcome ≡ outcome → CanFollowOutcome world (taken_from world bounds (alternative_next was.first was.choice)).piece outcome
-  outcome_follows Asks same = rw same at behind.leads
-  outcome_follows Goes same = rw same at behind.leads
-  outcome_follows (Ends ending) same =
-      let goes_on : IsHeapReached world after.state = rw same at behind.leads in
-      let ends = endings_mean world after.state [] ending no_input reached_behind.sound (none_beyond after.state.picture goes_on.known) (rw same at behind.ending) no_input_closed in
-      roots_are_terms world after.state (EndedLeaf (ended_in after.state ending no_input)) reached_behind.sound ends.leaf
-  outcome_follows (Cut bound) same = open_terms
-
   pub can_follow : CanFollow world taken
-  can_follow = subst (CanFollow world) (sym was.is) (record { terms = open_terms; outcome = outcome_follows after.outcome refl })
+  can_follow = subst (CanFollow world) (sym was.is) (record {
+    terms = roots_are_terms world after.state OpenLeaf reached_behind.sound tt;
+    outcome = can_follow_outcome world (taken_from world bounds (alternative_next was.first was.choice)).piece after.outcome reached_behind behind.leads behind.ending;
+  })
 
   pub stood_met : StoodMet taken
   stood_met = subst StoodMet (sym was.is) (record { within = behind.explored.within; met = behind.explored.met.met })
@@ -149,18 +129,35 @@ module _ (world : World) (target : MethodId) (bounds : Bounds) (waiting now : Li
 
 -- ---- a step
 
+if_met : {P Q : Type 0} (known : Known) → IfMet known P → (P → Q) → IfMet known Q
+if_met Open met f = tt
+if_met Met met f = f met
+if_met (Answered (Model values)) met f = f met
+if_met (Answered (Refuted log)) met f = tt
+if_met (Answered (UndecidedAnswer log)) met f = tt
+
 module _ (world : World) (bounds : Bounds) (walk : Walk) (now : List Waiting) (taken : Taken) (known : Known)
-    (was : WasTaken world walk.target bounds walk.waiting now taken) (explorable : IsExplorable world walk.target bounds) (reached : IsReached world taken.piece.state) where
+    (was : WasTaken world walk.target bounds walk.waiting now taken) (explorable : IsExplorable world walk.target bounds) (reached : IsReached world taken.piece.state)
+    (way : IsReachedBehind world bounds taken known) where
+  is_behind : IsBehind world walk.target bounds (length was.first.piece.state.when) was.first.piece.values (taken_at world bounds was.first.piece.state was.choice)
+  is_behind = behind world walk.target bounds walk.waiting now taken was explorable reached
+
   method_same : taken.piece.state.method ≡ walk.target
-  method_same =
-      subst (λ (t : Taken). t.piece.state.method ≡ walk.target) (sym was.is)
-      (behind world walk.target bounds walk.waiting now taken was explorable reached).explored.method
+  method_same = subst (λ (t : Taken). t.piece.state.method ≡ walk.target) (sym was.is) is_behind.explored.method
+
+  goes_on : GoesOnReached world taken.piece.state taken.outcome
+  goes_on = subst (λ (t : Taken). GoesOnReached world t.piece.state t.outcome) (sym was.is) is_behind.leads
+
+  -- what the piece has become behind the take
+  ran_formed : IfMet known (IsFormedOf world walk.target (ran_behind world bounds taken.piece.state taken.outcome).state)
+  ran_formed = if_met known way (λ on. (let kept = run_keeps_behind steps_lead world bounds explorable.range taken.piece.state taken.outcome reached goes_on on in
+      record { formed = kept.reached.sound; method = kept.method ∙ method_same }))
 
   -- what the listed paths and the waiting pieces have from the answers so far, they have with what was given in the step
   from_answers : (answers later : List Answer) → IsFrom world walk answers → Some later ≡ given_after (Some answers) known
       → IsFrom world (walk_with (record walk { waiting = now }) (follows world bounds taken known)) later
   from_answers answers later from same =
-      sources_with world bounds walk now taken known answers reached.sound method_same values from.paths pieces later same
+      sources_with world bounds walk now taken known answers ran_formed values from.paths pieces later same
     where
       all : EachWaiting (λ (one : Waiting). AreGiven answers one.piece.values) (was.first ∷ was.others)
       all = subst (EachWaiting (λ (one : Waiting). AreGiven answers one.piece.values)) was.waits from.pieces
@@ -200,10 +197,10 @@ module _ (world : World) (bounds : Bounds) (walk : Walk) (now : List Waiting) (t
 -- What holds behind a step.
 pub step_holds : (world : World) (bounds : Bounds) (budget : ℕ) (walk : Walk) (now : List Waiting) (taken : Taken) (known : Known) (new : Walk)
     → IsWalk world bounds budget walk → IsTakenFrom world bounds walk.waiting now (Some taken) → IsKnown budget taken known → IsAskedWithin walk known
-    → IsReached world taken.piece.state → new ≡ walk_with (record walk { waiting = now }) (follows world bounds taken known)
+    → IsReached world taken.piece.state → IsReachedBehind world bounds taken known → new ≡ walk_with (record walk { waiting = now }) (follows world bounds taken known)
     → HasStepped steps_lead endings_mean inputs_of_states one_places world bounds budget walk new
-step_holds world bounds budget walk now taken known new is from knows within reached same =
-    has_stepped steps_lead endings_mean inputs_of_states one_places world bounds budget walk walk.waiting now taken known new is refl from knows within reached same
+step_holds world bounds budget walk now taken known new is from knows within reached way same =
+    has_stepped steps_lead endings_mean inputs_of_states one_places world bounds budget walk walk.waiting now taken known new is refl from knows within reached way same
 
 -- what follows a taken alternative is added to the walk; that the conditions were looked at changes nothing of it
 pub walk_behind : (world : World) (bounds : Bounds) (walk : Walk) (taken looked_at : Taken) (known : Known) (next : Next) (later : Walk)

@@ -5,7 +5,7 @@ use Rattle.kb_class.specs.Naming.{Has}
 use Rattle.kb_frames.specs.State.{State}
 use Rattle.kb_frames.specs.declared.value.Outcome.{Outcome}
 use Rattle.kb_heap.specs.declared.bounds.Bounds.{Bounds}
-use Rattle.kb_link.specs.World.{World}
+use Rattle.kb_classes.specs.World.{World}
 use Rattle.kb_picture.specs.declared.choice.Choice.{Choice}
 use Rattle.kb_ways.specs.Turns.{told}
 use Rattle.kb_ways.specs.Ways.{Take}

@@ -4,7 +4,7 @@ use Rattle.std.specs.Prelude.{flat_map, if◌then◌else◌}
 use Rattle.kb_class.specs.declared.ids.MethodId.{MethodId}
 use Rattle.kb_heap.specs.declared.bounds.Bounds.{Bounds}
 use Rattle.kb_heap.specs.declared.heap.Input.{Input}
-use Rattle.kb_link.specs.World.{World}
+use Rattle.kb_classes.specs.World.{World}
 use Rattle.kb_oracle.specs.declared.answer.Answer.TheVariants.{Model, Refuted, Undecided as UndecidedAnswer}
 use Rattle.kb_picture.specs.declared.choice.Choice.{Choice}
 use Rattle.kb_picture.specs.declared.path.Leaf.TheVariants.{Ended as EndedLeaf, Cut as CutLeaf, Undecided, Open as OpenLeaf}
@@ -25,10 +25,12 @@ use Rattle.kb_picture.specs.Carried.{EachPath}
 use Rattle.kb_drive.specs.Covers.{AreOpenLast, closed_count, is_open}
 use Rattle.kb_picture.specs.Exactly.{ExactlyOneHas, NoneHas}
 use Rattle.kb_drive.specs.EmittedLaws.{InputsAreOfStates}
-use Rattle.kb_drive.specs.Following.{IsAskedWithin, IsKnown, alternative_next, closed_with, follows, follows_outcome, has_more, input_of_piece, listed_with, path_of_piece, taken_from, waiting_with, waits_at, waits_on, walk_with}
+use Rattle.kb_drive.specs.Following.{IsAskedWithin, IsKnown, IsReachedBehind, alternative_next, closed_with, follows, follows_outcome, has_more, input_of_piece, listed_with, path_of_piece, taken_from, waiting_with, waits_at, waits_on, walk_with}
 use Rattle.kb_ways.specs.Reached.{IsReached}
+use Rattle.kb_ways.specs.Ways.{Take}
 use Rattle.kb_drive.specs.Parts.{Alternative, IsInPart, Listed, Waits, alternatives_left, decisions_of_part, parts_of}
 use Rattle.kb_frames_laws.specs.Endings.{EndingsMean, ended_in}
+use Rattle.kb_drive.specs.Running.{ran_behind}
 use Rattle.kb_drive.specs.Steps.{LeadsOn, StepsLeadOn}
 use Rattle.kb_drive.specs.Taking.{choices_at, taken_at}
 use Rattle.kb_drive.specs.Walks.{AreRising, BeginWith, EachWaiting, IsFurther, IsRefined, IsRightPath, IsWaiting, IsWalk, StaysIn, size_behind, size_left, size_of, size_of_choices, size_waiting}
@@ -134,22 +136,25 @@ module _ (world : World) (bounds : Bounds) (taken : Taken) where
   outcome_closed piece (Cut bound) path e = let same : path_of_piece piece (CutLeaf bound (input_of_piece world piece)) ≡ path = cc in rw (sym same) refl
 
   -- where values meet the conditions of the piece
-  open_with_piece : (walk : Walk) → walk.closed ≡ closed_count walk.listed → AreOpenLast walk.paths walk.listed → walk.closed < walk.paths → (piece : Piece)
-      → AreOpenLast walk.paths (listed_with walk.listed (follows_outcome world bounds piece taken.outcome))
-  open_with_piece walk count kept within piece =
-      closed_next (follows_outcome world bounds piece taken.outcome) (λ path e. outcome_closed piece taken.outcome path e)
+  open_with_piece : (walk : Walk) → walk.closed ≡ closed_count walk.listed → AreOpenLast walk.paths walk.listed → walk.closed < walk.paths → (piece : Piece) (outcome : Outcome)
+      → AreOpenLast walk.paths (listed_with walk.listed (follows_outcome world bounds piece outcome))
+  open_with_piece walk count kept within piece outcome =
+      closed_next (follows_outcome world bounds piece outcome) (λ path e. outcome_closed piece outcome path e)
     where
       closed_next : (next : Next) → ((path : Path) → next ≡ Lists path → is_open path.leaf ≡ false) → AreOpenLast walk.paths (listed_with walk.listed next)
       closed_next (Lists path) closed = open_last_closed walk.paths walk.listed path kept (omega (arith, count, within)) (closed path refl)
       closed_next (WaitsNext one) closed = kept
       closed_next Leaves closed = kept
 
+  abbrev ran : Take
+  ran = ran_behind world bounds taken.piece.state taken.outcome
+
   pub open_with : (walk : Walk) (known : Known) → walk.closed ≡ closed_count walk.listed → AreOpenLast walk.paths walk.listed → IsAskedWithin walk known
       → AreOpenLast walk.paths (listed_with walk.listed (follows world bounds taken known))
   unfolding path_of
   open_with walk Open count kept within = open_last_open walk.paths walk.listed (path_of_piece taken.piece OpenLeaf) kept (omega (arith, count, within)) refl
-  open_with walk Met count kept within = open_with_piece walk count kept within taken.piece
-  open_with walk (Answered (Model values)) count kept within = open_with_piece walk count kept within (record taken.piece { values = values })
+  open_with walk Met count kept within = open_with_piece walk count kept within (record taken.piece { state = ran.state }) ran.outcome
+  open_with walk (Answered (Model values)) count kept within = open_with_piece walk count kept within (record taken.piece { state = ran.state; values = values }) ran.outcome
   open_with walk (Answered (Refuted log)) count kept within = kept
   open_with walk (Answered (UndecidedAnswer log)) count kept within =
       open_last_closed walk.paths walk.listed (path_of_piece taken.piece (Undecided log)) kept (omega (arith, count, within)) refl
@@ -173,7 +178,8 @@ module _ (steps : StepsLeadOn) (endings_mean : EndingsMean) (emits : InputsAreOf
   module _ (world : World) (bounds : Bounds) (budget : ℕ) (walk : Walk) (first : Waiting) (others : List Waiting) (choice : Choice) (known : Known)
       (is : IsWalk world bounds budget walk) (waits : walk.waiting ≡ first ∷ others) (at : slice_get first.choices first.next ≡ Some choice)
       (knows : IsKnown budget (taken_from world bounds (alternative_next first choice)) known) (within : IsAskedWithin walk known)
-      (reached : IsReached world (taken_at world bounds first.piece.state choice).state) where
+      (reached : IsReached world (taken_at world bounds first.piece.state choice).state)
+      (way : IsReachedBehind world bounds (taken_from world bounds (alternative_next first choice)) known) where
     abbrev next : Next
     next = follows world bounds (taken_from world bounds (alternative_next first choice)) known
 
@@ -194,7 +200,7 @@ module _ (steps : StepsLeadOn) (endings_mean : EndingsMean) (emits : InputsAreOf
     succeeds : Succeeds world walk.target bounds budget (alternative_next first choice) next
     succeeds =
         follows_rightly steps endings_mean emits one_places world walk.target bounds budget is.explorable (alternative_next first choice) known
-        (behind_piece world walk.target bounds first.piece one.piece (taken_at world bounds first.piece.state choice) leads reached) knows
+        (behind_piece world walk.target bounds first.piece one.piece (taken_at world bounds first.piece.state choice) leads reached) knows way
 
     -- the decisions of the parts, before and behind the step
     old_decisions : map decisions_of_part (parts_of walk.listed walk.waiting)

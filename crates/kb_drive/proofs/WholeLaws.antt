@@ -2,12 +2,12 @@
 use Rattle.std.proofs.Common.{ℕ, List}
 use Rattle.kb_class.specs.declared.ids.MethodId.{MethodId}
 use Rattle.kb_heap.specs.declared.bounds.Bounds.{Bounds}
-use Rattle.kb_link.specs.World.{World}
+use Rattle.kb_classes.specs.World.{World}
 use Rattle.kb_picture.specs.declared.choice.Init.{Init}
 use Rattle.kb_picture.specs.declared.path.Path.{Path}
 use Rattle.kb_drive.specs.Compared.{ComparesAsRuns}
 use Rattle.kb_picture.specs.Carried.{EachPath}
-use Rattle.kb_drive.specs.Covers.{Covers}
+use Rattle.kb_drive.specs.Covers.{Covers, FindsFirst}
 use Rattle.kb_drive.specs.ReadFirst.{SeesWhatIsRead}
 use Rattle.kb_drive.specs.Whole.{CoversPiece}
 use Rattle.kb_drive.proofs.SettledLaws.{whole_has, whole_piece}
@@ -24,6 +24,9 @@ module _ (world : World) (bounds : Bounds) (paths budget : ℕ) (init : Init) (t
     open_last = covers.open_last;
     formed = record { each = λ i path at. (covers.right i path at).formed; decisions = covers.decisions };
   }
+
+  pub found_whole : EachPath FindsFirst listed
+  found_whole i path at = (covers.right i path at).found
 
   pub compares_whole : EachPath (ComparesAsRuns world target bounds) listed
   compares_whole i path at = (covers.right i path at).compared

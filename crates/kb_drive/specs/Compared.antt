@@ -5,7 +5,7 @@ use Rattle.std.specs.Prelude.{◌≡◌, ℕ, ◌≤◌, Bool, false, List, leng
 use Rattle.kb_class.specs.declared.ids.MethodId.{MethodId}
 use Rattle.kb_heap.specs.declared.bounds.Bounds.{Bounds}
 use Rattle.kb_heap.specs.declared.heap.Input.{Input}
-use Rattle.kb_link.specs.World.{World}
+use Rattle.kb_classes.specs.World.{World}
 use Rattle.kb_semantics.specs.Comparisons.{Comparison}
 use Rattle.kb_picture.specs.declared.path.Path.{Path}
 use Rattle.kb_picture.specs.Instances.{IsShortInstance}

@@ -7,7 +7,7 @@ use Rattle.kb_class.specs.declared.ids.MethodId.{MethodId}
 use Rattle.kb_heap.specs.declared.bounds.Bound.{Bound}
 use Rattle.kb_heap.specs.declared.bounds.Bounds.{Bounds}
 use Rattle.kb_heap.specs.declared.heap.Input.{Input}
-use Rattle.kb_link.specs.World.{World}
+use Rattle.kb_classes.specs.World.{World}
 use Rattle.kb_oracle.specs.Answers.{LeavesOpen}
 use Rattle.kb_semantics.specs.Inputs.{IsTypeCorrect}
 use Rattle.kb_semantics.specs.Step.{run_of}
@@ -17,6 +17,7 @@ use Rattle.kb_picture.specs.declared.path.Leaf.TheVariants.{Ended as EndedLeaf, 
 use Rattle.kb_picture.specs.declared.path.Path.{Path}
 use Rattle.kb_picture.specs.Carried.{EachPath, CarriesInstance}
 use Rattle.kb_picture.specs.Endings.{stated_end}
+use Rattle.kb_picture.specs.Finding.{IsFoundFirst}
 use Rattle.kb_picture.specs.Instances.{IsInstance}
 use Rattle.kb_picture.specs.Queries.{query_of_path}
 use Rattle.kb_picture.specs.WellFormed.{IsWellFormed}
@@ -78,6 +79,11 @@ decisions_of path = path.decisions
 pub record AreFormed (world : World) (target : MethodId) (listed : List Path) : Type 0 where
   pub each : (i : ℕ) (path : Path) → slice_get listed i ≡ Some path → IsWellFormed world target path
   pub decisions : AreDecisions decisions_of listed
+
+-- ---- beside them: each slot that a path sees was found before it was read
+
+abbrev pub FindsFirst : Path → Type 0
+FindsFirst path = IsFoundFirst path.picture
 
 -- ---- all of them
 

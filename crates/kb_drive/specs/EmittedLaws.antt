@@ -2,7 +2,7 @@
 use Rattle.std.specs.Prelude.{ℤ, Bool, List}
 use Rattle.kb_heap.specs.declared.bounds.Bounds.{Bounds}
 use Rattle.kb_heap.specs.declared.heap.Input.{Input}
-use Rattle.kb_link.specs.World.{World}
+use Rattle.kb_classes.specs.World.{World}
 use Rattle.kb_semantics.specs.Inputs.{IsTypeCorrect}
 use Rattle.kb_terms.specs.Terms.{variables_of}
 use Rattle.kb_terms.specs.declared.node.TermId.{TermId}

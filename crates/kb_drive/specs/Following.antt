@@ -4,7 +4,7 @@ use Rattle.kb_blast.specs.Meaning.{AreMetInPool}
 use Rattle.kb_blast.specs.Query.{query_of}
 use Rattle.kb_heap.specs.declared.bounds.Bounds.{Bounds}
 use Rattle.kb_heap.specs.declared.heap.Input.{Input}
-use Rattle.kb_link.specs.World.{World}
+use Rattle.kb_classes.specs.World.{World}
 use Rattle.kb_outside.specs.Outside.{Rose}
 use Rattle.kb_oracle.specs.declared.answer.Answer.{Answer}
 use Rattle.kb_oracle.specs.declared.answer.Answer.TheVariants.{Model, Refuted, Undecided as UndecidedAnswer}
@@ -17,6 +17,7 @@ use Rattle.kb_terms.specs.Terms.{AreTerms, variables_of}
 use Rattle.kb_frames.specs.declared.value.Outcome.{Outcome}
 use Rattle.kb_frames.specs.declared.value.Outcome.TheVariants.{Asks, Goes, Ends, Cut}
 use Rattle.kb_frames.specs.Paths.{path_of, path_roots}
+use Rattle.kb_ways.specs.Ways.{Take}
 use Rattle.kb_drive.specs.Reached.{IsHeapReached}
 use Rattle.kb_drive.specs.declared.piece.Piece.{Piece}
 use Rattle.kb_drive.specs.declared.waiting.Waiting.{Waiting}
@@ -31,6 +32,9 @@ use Rattle.kb_input.specs.Emitted.{emitted_input}
 use Rattle.kb_drive.specs.Values.{followed_by_zeros}
 use Rattle.kb_drive.specs.Parts.{Alternative, decided, taken_of}
 use Rattle.kb_frames_laws.specs.Endings.{ended_in}
+use Rattle.kb_drive.specs.declared.running.Ran.{Ran}
+use Rattle.kb_drive.specs.declared.running.Ran.TheVariants as rans
+use Rattle.kb_drive.specs.Running.{AreReachedOn, IfGoesOn, TellsChoices, outcome_of, ran_behind, told_ran}
 use Rattle.kb_drive.specs.Taking.{choices_at}
 
 -- ---- an alternative that is taken
@@ -115,15 +119,27 @@ follows_outcome world bounds piece Goes = waits_at piece (choices_at world bound
 follows_outcome world bounds piece (Ends ending) = Lists (path_of_piece piece (EndedLeaf (ended_in piece.state ending (input_of_piece world piece))))
 follows_outcome world bounds piece (Cut bound) = Lists (path_of_piece piece (CutLeaf bound (input_of_piece world piece)))
 
+-- what follows what a piece has become
+abbrev pub follows_ran : World → Piece → Ran → Next
+follows_ran world piece (rans.Chooses choices) = waits_at piece choices
+follows_ran world piece (rans.Ends ending) = Lists (path_of_piece piece (EndedLeaf (ended_in piece.state ending (input_of_piece world piece))))
+follows_ran world piece (rans.Cut bound) = Lists (path_of_piece piece (CutLeaf bound (input_of_piece world piece)))
+
+-- what follows an outcome where the piece first goes on as long as nothing is chosen
+abbrev pub follows_on : World → Bounds → Piece → Outcome → Next
+follows_on world bounds piece outcome =
+    let ran = ran_behind world bounds piece.state outcome in
+    follows_outcome world bounds (record piece { state = ran.state }) ran.outcome
+
 abbrev pub follows_answer : World → Bounds → Taken → Answer → Next
-follows_answer world bounds taken (Model values) = follows_outcome world bounds (record taken.piece { values = values }) taken.outcome
+follows_answer world bounds taken (Model values) = follows_on world bounds (record taken.piece { values = values }) taken.outcome
 follows_answer world bounds taken (Refuted log) = Leaves
 follows_answer world bounds taken (UndecidedAnswer log) = Lists (path_of_piece taken.piece (Undecided log))
 
 -- What follows an alternative that was taken: it is listed as a path, it waits, or it leaves.
 abbrev pub follows : World → Bounds → Taken → Known → Next
 follows world bounds taken Open = Lists (path_of_piece taken.piece OpenLeaf)
-follows world bounds taken Met = follows_outcome world bounds taken.piece taken.outcome
+follows world bounds taken Met = follows_on world bounds taken.piece taken.outcome
 follows world bounds taken (Answered answer) = follows_answer world bounds taken answer
 
 -- ---- when it can follow
@@ -135,10 +151,29 @@ CanFollowOutcome world piece (Ends ending) =
     AreTerms piece.state.nodes (path_roots piece.state (EndedLeaf (ended_in piece.state ending (input_of_piece world piece))))
 CanFollowOutcome world piece (Cut bound) = AreTerms piece.state.nodes (path_roots piece.state OpenLeaf)
 
+-- values meet all conditions: those from before the take, or those of a model
+abbrev pub IfMet : Known → Type 0 → Type 0
+IfMet Open P = Unit {0}
+IfMet Met P = P
+IfMet (Answered (Model values)) P = P
+IfMet (Answered (Refuted log)) P = Unit {0}
+IfMet (Answered (UndecidedAnswer log)) P = Unit {0}
+
+-- then the piece goes on as long as nothing is chosen, by states to which calls have led
+abbrev pub IsReachedBehind : World → Bounds → Taken → Known → Type 0
+IsReachedBehind world bounds taken known = IfMet known (IfGoesOn taken.outcome (AreReachedOn world bounds taken.piece.state))
+
 -- a path can be made of it, and where it goes on, steps lead on
 pub record CanFollow (world : World) (taken : Taken) : Type 0 where
   pub terms : AreTerms taken.piece.state.nodes (path_roots taken.piece.state OpenLeaf)
   pub outcome : CanFollowOutcome world taken.piece taken.outcome
+
+-- A piece has become this take, with the alternatives of its next choice where it has one; a path can be made of it.
+pub record HasBecome (world : World) (bounds : Bounds) (old : Piece) (after : Take) (new : Piece) (ran : Ran) : Type 0 where
+  pub is : told_ran new.state ran ≡ after
+  pub same : new ≡ record old { state = new.state }
+  pub choices : TellsChoices world bounds new.state ran
+  pub can : CanFollowOutcome world new (outcome_of ran)
 
 -- ---- the exploration behind it
 

@@ -12,6 +12,7 @@ pub mod Reached
 pub mod Explorable
 pub mod Taking
 pub mod Steps
+pub mod Running
 pub mod StatePaths
 pub mod Pieces
 pub mod Parts

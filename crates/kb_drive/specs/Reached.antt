@@ -2,7 +2,7 @@
 -- which steps lead on: beside what holds of each reached state, that each next step is one that is built.
 use Rattle.std.specs.Prelude.{◌≡◌, true, []}
 use Rattle.kb_link.specs.Links.{IsLinked}
-use Rattle.kb_link.specs.World.{World}
+use Rattle.kb_classes.specs.World.{World}
 use Rattle.kb_lazy.specs.Laws.{HasNoBeyond}
 use Rattle.kb_picture.specs.declared.choice.Init.TheVariants.{Lazy}
 use Rattle.kb_frames.specs.declared.value.Outcome.{Outcome}

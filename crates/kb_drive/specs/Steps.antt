@@ -4,8 +4,9 @@ use Rattle.std.specs.Prelude.{◌≡◌, ℕ, ◌+◌, ◌-◌, ◌*◌, ◌<◌
 use Rattle.kb_class.specs.Naming.{Has}
 use Rattle.kb_heap.specs.declared.bounds.Bounds.{Bounds}
 use Rattle.kb_heap.specs.declared.heap.Input.{Input}
-use Rattle.kb_link.specs.World.{World}
+use Rattle.kb_classes.specs.World.{World}
 use Rattle.kb_picture.specs.declared.choice.Choice.{Choice}
+use Rattle.kb_picture.specs.declared.choice.Choice.TheVariants.{Only}
 use Rattle.kb_picture.specs.declared.picture.Picture.{Picture}
 use Rattle.kb_picture.specs.Instances.{variable_values}
 use Rattle.kb_picture.specs.Shapes.{HasShape}
@@ -15,7 +16,8 @@ use Rattle.kb_frames_laws.specs.Endings.{IsEndingIn}
 use Rattle.kb_ways.specs.Measure.{choices_left}
 use Rattle.kb_frames.specs.State.{State}
 use Rattle.kb_ways.specs.Reached.{IsReached}
-use Rattle.kb_ways.specs.Simulation.{AddsComparisons, FollowsStep, HasInputOfState, Keeps, ReadsWhatItSees, TakesOneWay}
+use Rattle.kb_ways.specs.Advancing.{only}
+use Rattle.kb_ways.specs.Simulation.{AddsComparisons, AddsNoCondition, FollowsStep, HasInputOfState, Keeps, ReadsWhatItSees, TakesOneWay}
 use Rattle.kb_ways.specs.Ways.{Take}
 use Rattle.kb_lazy.specs.Laws.{AreInRange}
 use Rattle.kb_drive.specs.Reached.{GoesOnReached, IsHeapReached}
@@ -71,10 +73,11 @@ pub record LeadsOn (world : World) (bounds : Bounds) (old : State) (after : Take
   pub leads : IsReached world after.state → GoesOnReached world after.state after.outcome
   pub fewer : GoesOn after.outcome → rank_of world bounds after.state < rank_of world bounds old
 
--- Each alternative of a state leads on, and each input goes one way.
+-- Each alternative of a state leads on, and each input goes one way. The only way on adds no condition.
 pub record StepsLead (world : World) (bounds : Bounds) (state : State) : Type 0 where
   pub one : TakesOneWay world bounds state (choices_at world bounds state) (taken_at world bounds state)
   pub each : (choice : Choice) → Has (choices_at world bounds state) choice → LeadsOn world bounds state (taken_at world bounds state choice)
+  pub plain : choices_at world bounds state ≡ only → AddsNoCondition state (taken_at world bounds state Only).state
 
 -- It is so for every state to which `start` and later calls lead, and from which steps lead on.
 abbrev pub StepsLeadOn : Type 0

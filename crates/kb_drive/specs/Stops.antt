@@ -3,7 +3,7 @@ use Rattle.std.specs.Prelude.{◌≡◌, ℕ}
 use Rattle.kb_blast.specs.Query.{Query, query_of}
 use Rattle.kb_class.specs.declared.ids.MethodId.{MethodId}
 use Rattle.kb_heap.specs.declared.bounds.Bounds.{Bounds}
-use Rattle.kb_link.specs.World.{World}
+use Rattle.kb_classes.specs.World.{World}
 use Rattle.kb_oracle.specs.declared.answer.OracleStop.{OracleStop}
 use Rattle.kb_oracle.specs.declared.answer.OracleStop.TheVariants.{Bad, NoMemory as OracleNoMemory}
 use Rattle.kb_picture.specs.declared.path.Leaf.TheVariants.{Open}

@@ -2,7 +2,7 @@
 -- tells which kind is next.
 use Rattle.std.specs.Prelude.{List, if◌then◌else◌}
 use Rattle.kb_heap.specs.declared.bounds.Bounds.{Bounds}
-use Rattle.kb_link.specs.World.{World}
+use Rattle.kb_classes.specs.World.{World}
 use Rattle.kb_picture.specs.declared.choice.Choice.{Choice}
 use Rattle.kb_frames.specs.Next.{next_is_int}
 use Rattle.kb_frames.specs.State.{State}

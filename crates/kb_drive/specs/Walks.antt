@@ -3,7 +3,7 @@ use Rattle.std.specs.Prelude.{◌≡◌, ◌⊎◌, ℕ, zero, suc, ◌<◌, Boo
 use Rattle.kb_class.specs.declared.ids.MethodId.{MethodId}
 use Rattle.kb_heap.specs.declared.bounds.Bounds.{Bounds}
 use Rattle.kb_heap.specs.declared.heap.Input.{Input}
-use Rattle.kb_link.specs.World.{World}
+use Rattle.kb_classes.specs.World.{World}
 use Rattle.kb_semantics.specs.Inputs.{IsTypeCorrect}
 use Rattle.kb_oracle.specs.declared.answer.Answer.{Answer}
 use Rattle.kb_picture.specs.declared.choice.Choice.{Choice}
@@ -20,7 +20,7 @@ use Rattle.kb_drive.specs.Counts.{RoseBy, undecided_count}
 use Rattle.kb_picture.specs.Exactly.{ExactlyOneHas, NoneHas}
 use Rattle.kb_drive.specs.Division.{IsFrontOf}
 use Rattle.kb_picture.specs.Carried.{CarriesInstance, EachPath}
-use Rattle.kb_drive.specs.Covers.{StatesRuns, IsCutRightly, IsUndecidedRightly, AreOpenLast, closed_count}
+use Rattle.kb_drive.specs.Covers.{StatesRuns, IsCutRightly, IsUndecidedRightly, AreOpenLast, closed_count, FindsFirst}
 use Rattle.kb_drive.specs.Compared.{ComparesAsRuns}
 use Rattle.kb_drive.specs.Explorable.{IsExplorable}
 use Rattle.kb_drive.specs.Parts.{IsInPart, decisions_of_part, parts_of}
@@ -52,6 +52,7 @@ AreRising (one ∷ others) = IsBelowEach one others × AreRising others
 -- What a listed path says is so, whatever else is listed.
 pub record IsRightPath (world : World) (target : MethodId) (bounds : Bounds) (budget : ℕ) (path : Path) : Type 0 where
   pub formed : IsWellFormed world target path
+  pub found : FindsFirst path
   pub ending : StatesRuns world target bounds path
   pub cut : IsCutRightly world target bounds path
   pub carried : CarriesInstance world target path

@@ -4,7 +4,7 @@ use Rattle.kb_class.specs.declared.ids.MethodId.{MethodId}
 use Rattle.kb_heap.specs.declared.bounds.Bound.{Bound}
 use Rattle.kb_heap.specs.declared.bounds.Bounds.{Bounds}
 use Rattle.kb_heap.specs.declared.heap.Input.{Input}
-use Rattle.kb_link.specs.World.{World}
+use Rattle.kb_classes.specs.World.{World}
 use Rattle.kb_semantics.specs.Past.{IsPastK, IsPastArray}
 use Rattle.kb_semantics.specs.Step.{run_of}
 use Rattle.kb_picture.specs.declared.path.Ended.{Ended}

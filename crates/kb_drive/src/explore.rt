@@ -7,7 +7,7 @@ ghost use Rattle.kb_frames.specs.State.{start_state};
 ghost use Rattle.kb_drive.specs.Compared.{ComparesAsRuns};
 ghost use Rattle.kb_drive.specs.Counts.{RoseBy, undecided_count};
 ghost use Rattle.kb_picture.specs.Carried.{EachPath};
-ghost use Rattle.kb_drive.specs.Covers.{Covers};
+ghost use Rattle.kb_drive.specs.Covers.{Covers, FindsFirst};
 ghost use Rattle.kb_drive.specs.HeapMethods.{is_heap_method};
 ghost use Rattle.kb_lazy.specs.Laws.{AreInRange};
 ghost use Rattle.kb_picture.specs.declared.choice.Init.TheVariants.{Lazy};
@@ -59,6 +59,7 @@ pub fn explore_from<O: Oracle>(
     ensures unsure { IfOk result (λ listed. RoseBy (undecided_count listed) (O.unsure oracle.old) (O.unsure oracle.new)) }
     ensures compared { IfOk result (EachPath (ComparesAsRuns world.now start.method bounds.now)) }
     ensures seen { IfOk result (EachPath (SeesWhatIsRead world.now start.method bounds.now)) }
+    ensures found { IfOk result (EachPath FindsFirst) }
     ensures given { IfOk result (λ listed. OfGiven (HaveValuesFrom world.now start.method listed) (O.given oracle.old) (O.given oracle.new)) }
 
     // It stops where memory runs out, or where the oracle has counted a bad stop: then the path tells what was asked.

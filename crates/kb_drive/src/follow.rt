@@ -1,15 +1,19 @@
 //! What follows an alternative that was taken.
-ghost use Rattle.std.specs.Prelude.{◌≡◌, IfOk};
+ghost use Rattle.std.specs.Prelude.{◌≡◌, IfOk, OnOk};
 ghost use Rattle.kb_frames.specs.Paths.{path_roots};
 ghost use Rattle.kb_drive.specs.Reached.{IsHeapReached};
 ghost use Rattle.kb_terms.specs.Terms.{AreTerms};
-ghost use Rattle.kb_drive.specs.Following.{CanFollow, CanFollowOutcome, follows, follows_answer, follows_outcome, path_of_piece, waits_at};
+ghost use Rattle.kb_lazy.specs.Laws.{AreInRange};
+ghost use Rattle.kb_drive.specs.Following.{CanFollow, CanFollowOutcome, HasBecome, IsReachedBehind, follows, follows_answer, follows_on, follows_ran, path_of_piece, waits_at};
+ghost use Rattle.kb_drive.specs.declared.follow.Known.TheVariants.{Answered};
 ghost use Rattle.kb_drive.specs.declared.follow.Next.TheVariants as nexts;
+ghost use Rattle.kb_drive.specs.Running.{AreReachedOn, IfGoesOn, outcome_of, ran_behind};
 ghost use Rattle.kb_drive.specs.Taking.{choices_at};
 
 use crate::NoMemory;
 use crate::leaf::{cut_path, ended_path, path_of};
 use crate::piece::Piece;
+use crate::running::Ran;
 use crate::steps::choices;
 use crate::valued::Valued;
 use crate::waiting::{Taken, Waiting};
@@ -51,8 +55,10 @@ pub(crate) fn follow(
     taken: Taken,
     known: Known,
 ) -> Result<Next, NoMemory>
-    requires { CanFollow world.now taken }
-    ensures { IfOk result (λ next. next ≡ follows world.now bounds.now taken known) }
+    requires taken { CanFollow world.now taken }
+    requires range { AreInRange bounds.now }
+    ensures follows { IfOk result (λ next. next ≡ follows world.now bounds.now taken known) }
+    ensures way { OnOk result (IsReachedBehind world.now bounds.now taken known) }
 {
     match known {
         Known::Open => list_taken(alloc, taken, Leaf::Open),
@@ -68,8 +74,10 @@ fn follow_answer(
     taken: Taken,
     answer: Answer,
 ) -> Result<Next, NoMemory>
-    requires { CanFollow world.now taken }
-    ensures { IfOk result (λ next. next ≡ follows_answer world.now bounds.now taken answer) }
+    requires taken { CanFollow world.now taken }
+    requires range { AreInRange bounds.now }
+    ensures follows { IfOk result (λ next. next ≡ follows_answer world.now bounds.now taken answer) }
+    ensures way { OnOk result (IsReachedBehind world.now bounds.now taken (Answered answer)) }
 {
     match answer {
         Answer::Model(values) => follow_met(alloc, world, bounds, taken.with_values(values)),
@@ -95,34 +103,51 @@ fn lists(alloc: Global, piece: &Piece, leaf: Leaf) -> Result<Next, NoMemory>
 }
 
 // What follows where the values that go with what was taken, those from before the take or those of a new model, meet all its
-// conditions.
+// conditions: the piece goes on as long as nothing is chosen, and waits, or its path is listed.
 fn follow_met(alloc: Global, world: &World, bounds: &Bounds, taken: Taken) -> Result<Next, NoMemory>
-    requires { CanFollow world.now taken }
-    ensures { IfOk result (λ next. next ≡ follows_outcome world.now bounds.now taken.piece taken.outcome) }
+    requires taken { CanFollow world.now taken }
+    requires range { AreInRange bounds.now }
+    ensures follows { IfOk result (λ next. next ≡ follows_on world.now bounds.now taken.piece taken.outcome) }
+    ensures way { OnOk result (IfGoesOn taken.outcome (AreReachedOn world.now bounds.now taken.piece.state)) }
 {
-    follow_outcome(alloc, world, bounds, taken.piece, taken.outcome)
+    let (piece, ran) = run_behind(alloc, world, bounds, taken.piece, taken.outcome)?;
+    settle(alloc, world, piece, ran)
 }
 
-// What follows where the values of the piece meet its conditions.
-fn follow_outcome(
+// A piece behind a take, gone on as long as nothing is chosen.
+fn run_behind(
     alloc: Global,
     world: &World,
     bounds: &Bounds,
     piece: Valued,
     outcome: Outcome,
-) -> Result<Next, NoMemory>
-    requires { CanFollowOutcome world.now piece outcome }
-    ensures { IfOk result (λ next. next ≡ follows_outcome world.now bounds.now piece outcome) }
+) -> Result<(Valued, Ran), NoMemory>
+    requires piece { CanFollowOutcome world.now piece outcome }
+    requires range { AreInRange bounds.now }
+    ensures became { IfOk result (λ went. HasBecome world.now bounds.now piece (ran_behind world.now bounds.now piece.state outcome) went.0 went.1) }
+    ensures way { OnOk result (IfGoesOn outcome (AreReachedOn world.now bounds.now piece.state)) }
 {
     match outcome {
-        Outcome::Asks => wait(alloc, world, bounds, piece),
-        Outcome::Goes => wait(alloc, world, bounds, piece),
-        Outcome::Ends(ending) => Ok(Next::Lists(ended_path(alloc, world, piece.get(), ending)?)),
-        Outcome::Cut(bound) => Ok(Next::Lists(cut_path(alloc, world, piece.get(), bound)?)),
+        Outcome::Asks => piece.run_on(alloc, world, bounds),
+        Outcome::Goes => piece.run_on(alloc, world, bounds),
+        Outcome::Ends(ending) => Ok((piece, Ran::Ends(ending))),
+        Outcome::Cut(bound) => Ok((piece, Ran::Cut(bound))),
     }
 }
 
-/// A piece waits at its next choice.
+// What follows what a piece has become whose values meet its conditions.
+fn settle(alloc: Global, world: &World, piece: Valued, ran: Ran) -> Result<Next, NoMemory>
+    requires { CanFollowOutcome world.now piece (outcome_of ran) }
+    ensures { IfOk result (λ next. next ≡ follows_ran world.now piece ran) }
+{
+    match ran {
+        Ran::Chooses(choices) => Ok(waits_at(piece, choices)),
+        Ran::Ends(ending) => Ok(Next::Lists(ended_path(alloc, world, piece.get(), ending)?)),
+        Ran::Cut(bound) => Ok(Next::Lists(cut_path(alloc, world, piece.get(), bound)?)),
+    }
+}
+
+/// A piece waits at its next step, whether it chooses or not.
 pub(crate) fn begin(
     alloc: Global,
     world: &World,
@@ -133,18 +158,11 @@ pub(crate) fn begin(
     ensures { IfOk result (λ next. next ≡ waits_at piece (choices_at world.now bounds.now piece.state)) }
 {
     let valued = Valued::new(alloc, piece)?;
-    wait(alloc, world, bounds, valued)
+    let choices = choices(alloc, world, &valued.get().state, bounds)?;
+    Ok(waits_at(valued, choices))
 }
 
-// The piece waits at its next choice; where there is no alternative it has no inputs.
-fn wait(alloc: Global, world: &World, bounds: &Bounds, piece: Valued) -> Result<Next, NoMemory>
-    requires { IsHeapReached world.now piece.state }
-    ensures { IfOk result (λ next. next ≡ waits_at piece (choices_at world.now bounds.now piece.state)) }
-{
-    let choices = choices(alloc, world, &piece.get().state, bounds)?;
-    Ok(waits_at(piece, choices))
-}
-
+// Where there is no alternative it has no inputs.
 fn waits_at(piece: Valued, choices: Row<Choice>) -> Next
     ensures { result ≡ waits_at piece choices }
 {

@@ -1,7 +1,7 @@
 //! Which methods run by steps that are built.
 ghost use Rattle.std.specs.Prelude.{◌≡◌};
 ghost use Rattle.std.specs.List.{list_all};
-ghost use Rattle.kb_link.specs.Slots.{has_slot_type};
+ghost use Rattle.kb_classes.specs.Slots.{has_slot_type};
 ghost use Rattle.kb_drive.specs.HeapMethods.{is_heap_code, is_heap_info, is_heap_method, is_none_or_value};
 
 use kb_class::{MethodCode, MethodId, MethodInfo};

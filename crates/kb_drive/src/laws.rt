@@ -6,7 +6,7 @@ ghost use Rattle.kb_heap.specs.declared.bounds.Bounds.{Bounds};
 ghost use Rattle.kb_heap.specs.declared.ending.Ending.TheVariants.{Threw};
 ghost use Rattle.kb_heap.specs.declared.heap.Input.{Input};
 ghost use Rattle.kb_link.specs.Links.{IsLinked};
-ghost use Rattle.kb_link.specs.World.{World};
+ghost use Rattle.kb_classes.specs.World.{World};
 ghost use Rattle.kb_terms.specs.Terms.{IsPool};
 ghost use Rattle.kb_semantics.specs.Inputs.{IsTypeCorrect};
 ghost use Rattle.kb_semantics.specs.Step.{run_of};

@@ -2,8 +2,8 @@
 //!
 //! `specs/Covers.antt` says when a list of paths covers a method, `specs/Compared.antt`, `ReadFirst.antt`, `Counts.antt` and
 //! `Values.antt` what else a list keeps, `specs/Stops.antt` what a stop says. `specs/Pieces.antt`, `Parts.antt` and
-//! `Walks.antt` say what holds of an exploration on its way, `specs/Steps.antt` and `StatePaths.antt` what it takes from the
-//! steps and the paths of states.
+//! `Walks.antt` say what holds of an exploration on its way, `specs/Running.antt` what a state becomes that goes on as long as
+//! nothing is chosen, `specs/Steps.antt` and `StatePaths.antt` what it takes from the steps and the paths of states.
 #![tactic(auto)]
 
 mod ask;
@@ -14,6 +14,7 @@ mod laws;
 mod leaf;
 mod met;
 mod piece;
+mod running;
 mod steps;
 mod stop;
 mod taking;

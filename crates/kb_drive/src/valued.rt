@@ -1,13 +1,17 @@
 //! Pieces with the values of their terms.
-ghost use Rattle.std.specs.Prelude.{◌≡◌, ◌↔◌, IsTrue, IfOk, length, slice_get};
+ghost use Rattle.std.specs.Prelude.{◌≡◌, ◌↔◌, IsTrue, IfOk, OnOk, length, slice_get};
 ghost use Rattle.kb_blast.specs.Meaning.{AreMetInPool};
 ghost use Rattle.kb_ways.specs.Reached.{IsReached};
-ghost use Rattle.kb_drive.specs.Following.{HaveMetFirst, IsTakenOf};
+ghost use Rattle.kb_lazy.specs.Laws.{AreInRange};
+ghost use Rattle.kb_drive.specs.Following.{HasBecome, HaveMetFirst, IsTakenOf};
+ghost use Rattle.kb_drive.specs.Reached.{IsHeapReached};
+ghost use Rattle.kb_drive.specs.Running.{AreReachedOn, runs_on};
 ghost use Rattle.kb_drive.specs.Walks.{CanBeTaken};
 
 use crate::NoMemory;
 use crate::met::are_met_behind;
 use crate::piece::Piece;
+use crate::running::{Ran, run_on};
 use crate::taking::go_on;
 use kb_frames::Outcome;
 use kb_heap::Bounds;
@@ -94,6 +98,24 @@ impl Valued {
         let computed = self.computed;
         let outcome = go_on(alloc, world, bounds, piece.get_mut(), choices, next)?;
         Ok((Valued { piece, computed }, outcome))
+    }
+
+    /// The piece, gone on as long as nothing is chosen, and what has become of it.
+    pub(crate) fn run_on(
+        self,
+        alloc: Global,
+        world: &World,
+        bounds: &Bounds,
+    ) -> Result<(Valued, Ran), NoMemory>
+        requires reached { IsHeapReached world.now self.state }
+        requires range { AreInRange bounds.now }
+        ensures became { IfOk result (λ went. HasBecome world.now bounds.now self (runs_on world.now bounds.now self.state) went.0 went.1) }
+        ensures way { OnOk result (AreReachedOn world.now bounds.now self.state) }
+    {
+        let mut piece = self.piece;
+        let computed = self.computed;
+        let ran = run_on(alloc, world, bounds, &mut piece.get_mut().state)?;
+        Ok((Valued { piece, computed }, ran))
     }
 
     /// Whether the values meet all conditions, where they meet the first so many. Where there are others the values of the terms

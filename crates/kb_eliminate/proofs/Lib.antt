@@ -1,10 +1,2 @@
-pub mod Places
-pub mod ClausesLaws
-pub mod TrailLaws
-pub mod WatchLaws
-pub mod JustifyLaws
-pub mod BaseLaws
-pub mod BeginLaws
 pub mod ResolventLaws
-pub mod ForgetLaws
 pub mod RestoreLaws

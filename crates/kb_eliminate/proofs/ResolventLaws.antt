@@ -12,19 +12,18 @@ use Rattle.kb_chain.proofs.OrderLaws.{has-clause_of}
 use Rattle.kb_chain.proofs.ChainLaws.{resolved_with}
 use Rattle.kb_chain.proofs.LogLaws.{derived-push}
 use Rattle.kb_chain.proofs.PropagationLaws.{taken_part}
-use Rattle.kb_eliminate.specs.Tables.{IsDistinct}
-use Rattle.kb_eliminate.specs.Trail.{Assigned, IsTrail, level_zero}
-use Rattle.kb_eliminate.specs.Store.{IsRow, IsStored, IsJustified}
-use Rattle.kb_eliminate.specs.Watches.{IsWatching, Quiet, paired, put_pair}
-use Rattle.kb_eliminate.specs.Base.{IsBase, IsSecondLiteral}
+use Rattle.kb_propagate.specs.Tables.{IsDistinct}
+use Rattle.kb_propagate.specs.Trail.{Assigned, IsTrail, level_zero}
+use Rattle.kb_propagate.specs.Store.{IsRow, IsStored, IsJustified}
+use Rattle.kb_propagate.specs.Watches.{Pair, IsWatching, Quiet, paired, put_pair}
+use Rattle.kb_propagate.specs.Base.{IsBase, IsSecondLiteral}
 use Rattle.kb_eliminate.specs.Resolvents.{IsResolvent, IsMerged}
-use Rattle.kb_eliminate.specs.declared.watch.Pair.{Pair}
-use Rattle.kb_eliminate.specs.declared.watch.Watch.{Watch}
-use Rattle.kb_eliminate.proofs.Places.{at_pushed, at_inside, at_within, at_last, at_has, at_same, has_at, get_or_at_place}
-use Rattle.kb_eliminate.proofs.TrailLaws.{has_pushed}
-use Rattle.kb_eliminate.proofs.WatchLaws.{IsWatching-push, AllListed-push, Quiet-push, Quiet_more}
-use Rattle.kb_eliminate.proofs.JustifyLaws.{pushed, IsJustified-push, push_part}
-use Rattle.kb_eliminate.proofs.JustifyLaws.{IsJustified-grow}
+use Rattle.kb_propagate.specs.declared.watch.Watch.{Watch}
+use Rattle.kb_propagate.proofs.Places.{some_in, at_pushed, at_inside, at_within, at_last, at_has, at_same, has_at, get_or_at_place}
+use Rattle.kb_propagate.proofs.TrailLaws.{has_pushed}
+use Rattle.kb_propagate.proofs.WatchLaws.{IsWatching-push, AllListed-push, Quiet-push, Quiet_more}
+use Rattle.kb_propagate.proofs.JustifyLaws.{pushed, IsJustified-push, push_part}
+use Rattle.kb_propagate.proofs.JustifyLaws.{IsJustified-grow}
 
 -- a row that is merged literal by literal
 
@@ -167,9 +166,9 @@ IsDerived-from set clauses rows left right pivot row chain is left_in right_in a
     let r = at_within rows right right_in in
     let a = at_within clauses left (omega (arith, left_in, count)) in
     let b = at_within clauses right (omega (arith, right_in, count)) in
-    let f = is.each left a.0 l.0 a.1 l.1 in
-    let g = is.each right b.0 r.0 b.1 r.1 in
     let h = resolvent l.0 r.0 l.1 r.1 in
+    let f = is.each left a.0 l.0 a.1 l.1 (some_in l.0 pivot (and_parts _ _ h.left_has).0) in
+    let g = is.each right b.0 r.0 b.1 r.1 (some_in r.0 (negated pivot) (and_parts _ _ h.right_has).0) in
     let apart = opposite a.0 b.0 pivot (only_kept set l.0 a.0 pivot f absent h.left_has) (only_kept set r.0 b.0 (negated pivot) g possible h.right_has) in
     record {
       clause = united a.0 b.0 pivot.variable;
@@ -250,7 +249,7 @@ IsBase-add formula entries rows pairs lists t whole s chain row a b n level d p 
       clauses = s.clauses ++ d.clause ∷ [];
       derives = derived-push entries formula.clauses s.clauses chain d.clause s.derives d.derives;
       vars = s.vars;
-      justified = IsJustified-grow s.clauses rows t d.clause row s.justified (subst (λ z. IsRow (has z) row d.clause) (sym (level_zero-all t level)) d.stored);
+      justified = IsJustified-grow s.clauses rows t d.clause row s.justified (subst (λ z. IsRow (has z) row d.clause) (sym (level_zero-all t level)) d.stored) (some_in row a p.first);
       watching = IsWatching-push rows pairs lists t.vars row a b n s.watching at p.first p.second p.within;
       listed = AllListed-push pairs lists a b n s.listed (at ∙ sym count) (omega (arith, low_a, places)) (omega (arith, low_b, places));
       fresh = λ w. absurd (false≢true w);
@@ -296,7 +295,3 @@ Quiet-unit rows pairs t head row a b count p le quiet =
       second = λ e. absurd (false≢true (sym (p.valueless b p.second).1 ∙ taken_part t.literals head (negated b) e));
       single = λ e. has_pushed t.literals a a ∙ or_right _ _ (same_refl a);
     }))
-
-pub steps_of : (steps before : List (ℕ × ℕ)) (v : ℕ) (pivot : Literal) (n : ℕ) → steps ≡ before ++ (v, n) ∷ [] → before ≡ [] → v ≡ pivot.variable
-    → steps ≡ (pivot.variable, n) ∷ []
-steps_of steps before v pivot n e f g = e ∙ (ap (λ (z : List (ℕ × ℕ)). z ++ (v, n) ∷ []) f ∙ ap (λ (k : ℕ). (k, n) ∷ []) g)

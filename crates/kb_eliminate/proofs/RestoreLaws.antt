@@ -1,5 +1,5 @@
 -- Literals that are made true.
-use Rattle.std.proofs.Common.{◌≡◌, ◌-◌, ◌<◌, ◌∙◌, List, Bool, true, false, not, cond, refl, ap, length, get_or, slice_set}
+use Rattle.std.proofs.Common.{◌≡◌, ◌-◌, ◌<◌, ◌∙◌, List, Bool, true, false, not, cond, refl, ap, length, slice_set}
 use Rattle.std.proofs.lemmas.List.{get_or-set_same}
 use Rattle.kb_chain.specs.Literal.{Literal, is_true}
 use Rattle.kb_chain.specs.Clause.{assignment_of}

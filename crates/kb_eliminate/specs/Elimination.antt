@@ -3,8 +3,8 @@ use Rattle.std.specs.Prelude.{◌≡◌, ℕ, ◌<◌, ◌++◌, ◌⊎◌, Bool
 use Rattle.kb_chain.specs.Cnf.{Cnf}
 use Rattle.kb_chain.specs.Literal.{Literal, negated}
 use Rattle.kb_eliminate.specs.Resolvents.{IsResolvent}
-use Rattle.kb_eliminate.specs.Base.{Stands, IsReady}
-use Rattle.kb_eliminate.specs.declared.base.Base.{Base}
+use Rattle.kb_propagate.specs.Base.{Stands, IsReady}
+use Rattle.kb_propagate.specs.declared.base.Base.{Base}
 use Rattle.kb_eliminate.specs.declared.elimination.Sides.{Sides}
 
 -- the base of a search for this formula at level 0 that has decided nothing

@@ -1,10 +1,2 @@
-pub mod Trail
-pub mod Tables
-pub mod Store
-pub mod Rows
-pub mod Watches
-pub mod Walking
-pub mod Base
-pub mod Forgetting
 pub mod Resolvents
 pub mod Elimination

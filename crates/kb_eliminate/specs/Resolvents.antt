@@ -2,7 +2,7 @@
 use Rattle.std.specs.Prelude.{◌≡◌, ◌==◌, ◌||◌, ℕ, Bool, true, false, List}
 use Rattle.kb_chain.specs.Literal.{Literal, has, negated}
 use Rattle.kb_chain.specs.Clause.{has_only}
-use Rattle.kb_eliminate.specs.Tables.{IsDistinct}
+use Rattle.kb_propagate.specs.Tables.{IsDistinct}
 
 -- the literals of two rows but the pivot's, without those that are negated in the set; the left row has the pivot, the right one its negation
 pub record IsResolvent (zero : Literal → Bool) (left right : List Literal) (pivot : Literal) (row : List Literal) : Type 0 where

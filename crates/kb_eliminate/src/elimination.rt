@@ -3,15 +3,14 @@
 ghost use Rattle.std.specs.Prelude.{◌≡◌, ◌++◌, false, [], OnOk, IfOk, IfSome};
 ghost use Rattle.std.specs.Bool.{OnTrue};
 ghost use Rattle.kb_chain.specs.Literal.{has, negated};
-ghost use Rattle.kb_eliminate.specs.Base.{Stands, IsReady};
+ghost use Rattle.kb_propagate.specs.Rows.{rows_of};
+ghost use Rattle.kb_propagate.specs.Base.{Stands, IsReady};
 ghost use Rattle.kb_eliminate.specs.Elimination.{IsUndecided, IsResolventAt, each_with, AreGone};
 
-use crate::NoMemory;
-use crate::base::Base;
 use crate::occurrences::Occurrences;
 use crate::resolvents::{add_resolvent, resolvent};
-use crate::trail::Trail;
 use kb_chain::{Lit, Row};
+use kb_propagate::{Base, NoMemory, Trail};
 use std::alloc::Global;
 
 /// How far an elimination goes.
@@ -87,7 +86,7 @@ fn eliminate_all(
     sorted.sort_by_key(|candidate| candidate.pairs)?;
     let mut eliminated = Eliminated::new(alloc);
     for candidate in sorted.as_slice() {
-        if base.entries.as_slice().len() >= bounds.entries {
+        if base.entries.len() >= bounds.entries {
             break;
         }
         let pivot = candidate.pivot;
@@ -164,9 +163,8 @@ fn few_clauses(
     bounds: EliminationBounds,
     pivot: Lit,
 ) -> Result<Option<Sides>, NoMemory> {
-    let pairs = base.watches.pairs.as_slice();
-    occurrences.prune(pairs, pivot);
-    occurrences.prune(pairs, pivot.negated());
+    occurrences.prune(&base.clauses, pivot);
+    occurrences.prune(&base.clauses, pivot.negated());
     let left = occurrences.at(pivot);
     let right = occurrences.at(pivot.negated());
     if !are_few(bounds, left.len(), right.len()) {
@@ -224,7 +222,7 @@ fn is_worthwhile(
     if !is_free(&base.trail, sides.pivot) {
         return Ok(false);
     }
-    let entries = base.entries.as_slice().len();
+    let entries = base.entries.len();
     let clauses = sides.left.len().saturating_add(sides.right.len());
     let mut room = clauses.min(bounds.entries.saturating_sub(entries));
     for left in sides.left.as_slice() {
@@ -267,7 +265,7 @@ fn resolvent_at(
     right: u32,
     pivot: Lit,
 ) -> Result<Option<Row<Lit>>, NoMemory>
-    ensures { IfOk result (λ found. IfSome found (IsResolventAt (has base.now.trail.literals) base.now.clauses left right pivot)) }
+    ensures { IfOk result (λ found. IfSome found (IsResolventAt (has base.now.trail.literals) (rows_of base.now.clauses) left right pivot)) }
 {
     let clauses = &base.clauses;
     if left >= clauses.len() {
@@ -344,7 +342,7 @@ fn add(
         return Ok(false);
     }
     let number = base.clauses.len();
-    add_resolvent(alloc, base, left, right, pivot, row.as_slice())?;
+    add_resolvent(base, left, right, pivot, row.as_slice())?;
     occurrences.add(number, row.as_slice())?;
     Ok(true)
 }

@@ -1,27 +1,10 @@
-//! What a search for a model stands on, and what can be done with it without any decision: the clauses with their derivations,
-//! unit propagation by two watched literals, and bounded variable elimination with the reconstruction of models.
+//! Bounded variable elimination, and models restored with values of the variables that went.
 #![tactic(auto)]
 
-mod base;
-mod begin;
-mod clauses;
-mod complete;
 mod elimination;
 mod occurrences;
-mod propagation;
 mod resolvents;
 mod restoring;
-mod trail;
-mod watch;
-mod watches;
 
-pub use base::{Base, second_of};
-pub use begin::watch_pair;
-pub use clauses::Clauses;
-pub use complete::model;
 pub use elimination::{Eliminated, EliminationBounds, eliminate};
 pub use restoring::restored;
-pub use std::alloc::AllocError as NoMemory;
-pub use trail::Trail;
-pub use watch::{Pair, Watch};
-pub use watches::{WatchList, Watches};

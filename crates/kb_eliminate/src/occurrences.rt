@@ -1,10 +1,7 @@
 //! Occurrence lists: the clauses that have a literal, for variable elimination. Free: what they name is looked at again before
 //! use.
-use crate::NoMemory;
-use crate::base::Base;
-use crate::trail::Trail;
-use crate::watch::Pair;
 use kb_chain::Lit;
+use kb_propagate::{Base, Clauses, NoMemory, Trail};
 use std::alloc::Global;
 
 /// The numbers of the clauses that have a literal, by its place. Of those some may have been let go since.
@@ -17,10 +14,9 @@ impl Occurrences {
     /// The occurrences in the clauses that are awake and not true.
     pub fn new(alloc: Global, base: &Base<'_>) -> Result<Occurrences, NoMemory> {
         let mut occurrences = Occurrences::empty(alloc, base.trail.vars())?;
-        let pairs = base.watches.pairs.as_slice();
         for number in 0..base.clauses.len() {
             let literals = base.clauses.literals(number);
-            if is_awake(pairs, number) && !is_true(&base.trail, literals) {
+            if base.clauses.is_awake(number) && !is_true(&base.trail, literals) {
                 occurrences.add(number, literals)?;
             }
         }
@@ -59,9 +55,9 @@ impl Occurrences {
     }
 
     /// Takes the clauses that were let go out of the list of a literal.
-    pub fn prune(&mut self, pairs: &[Pair], literal: Lit) {
+    pub fn prune(&mut self, clauses: &Clauses, literal: Lit) {
         if let Some(list) = self.lists.get_mut(literal.place()) {
-            list.retain(|number| is_awake(pairs, *number));
+            list.retain(|number| clauses.is_awake(*number));
         }
     }
 
@@ -69,13 +65,6 @@ impl Occurrences {
         if let Some(list) = self.lists.get_mut(literal.place()) {
             list.clear();
         }
-    }
-}
-
-fn is_awake(pairs: &[Pair], number: u32) -> bool {
-    match pairs.get(number as usize) {
-        Some(pair) => pair.awake,
-        None => false,
     }
 }
 

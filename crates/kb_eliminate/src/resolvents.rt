@@ -4,13 +4,11 @@ ghost use Rattle.std.specs.Bool.{OnTrue};
 ghost use Rattle.kb_chain.specs.Literal.{Literal, has, negated};
 ghost use Rattle.kb_chain.specs.Clause.{has_only};
 ghost use Rattle.kb_eliminate.specs.Resolvents.{IsResolvent, IsMerged};
-ghost use Rattle.kb_eliminate.specs.Base.{Stands, IsReady};
+ghost use Rattle.kb_propagate.specs.Rows.{rows_of, awake_clause};
+ghost use Rattle.kb_propagate.specs.Base.{Stands, IsReady};
 
-use crate::NoMemory;
-use crate::base::{Base, second_of};
-use crate::begin::watch_pair;
-use crate::trail::Trail;
-use kb_chain::{Chain, Lit, Row};
+use kb_chain::{Lit, Row};
+use kb_propagate::{Base, NoMemory, Trail, second_of, watch_pair};
 use std::alloc::Global;
 
 /// The resolvent of two clauses, without what is false at level 0. None where a clause has both literals of the pivot's
@@ -115,7 +113,6 @@ fn of_variable(literals: &[Lit], variable: u32) -> Option<Lit>
 /// Adds the resolvent of two clauses on a variable without a value: an entry of the log, and a clause that is watched. The base
 /// is whole no longer. Where the resolvent is one literal, it becomes true.
 pub fn add_resolvent(
-    alloc: Global,
     base: &mut Base<'_>,
     left: u32,
     right: u32,
@@ -127,25 +124,19 @@ pub fn add_resolvent(
     requires level { base.old.trail.starts ≡ [] }
     requires absent { has base.old.trail.literals pivot ≡ false }
     requires possible { has base.old.trail.literals (negated pivot) ≡ false }
-    requires left { left < length base.old.clauses }
-    requires right { right < length base.old.clauses }
-    requires resolvent { (l r : List Literal) → slice_get base.old.clauses left ≡ Some l → slice_get base.old.clauses right ≡ Some r
+    requires left { left < length (rows_of base.old.clauses) }
+    requires right { right < length (rows_of base.old.clauses) }
+    requires resolvent { (l r : List Literal) → slice_get (rows_of base.old.clauses) left ≡ Some l → slice_get (rows_of base.old.clauses) right ≡ Some r
         → IsResolvent (has base.old.trail.literals) l r pivot row.now }
     requires some { 0 < length row.now }
     ensures stands { OnOk result (Stands base.new) }
     ensures ready { OnOk result (IsReady base.new) }
     ensures level { OnOk result (base.new.trail.starts ≡ []) }
-    ensures clauses { OnOk result (base.new.clauses ≡ base.old.clauses ++ row.now ∷ []) }
+    ensures clauses { OnOk result (base.new.clauses ≡ base.old.clauses ++ awake_clause row.now ∷ []) }
     ensures formula { OnOk result (base.new.formula.now ≡ base.old.formula.now) }
 {
     base.trail.tell_trail();
-    let mut steps = Vec::new(alloc);
-    steps.push((pivot.variable(), right))?;
-    let chain = Chain {
-        start: left,
-        steps: Row::from_vec(steps),
-    };
-    base.entries.push(chain)?;
+    base.entries.push(left, &[(pivot.variable(), right)])?;
     let number = base.clauses.len();
     let first = row[0];
     base.clauses.push(row)?;

@@ -4,14 +4,12 @@ ghost use Rattle.std.specs.Prelude.{◌≡◌, ◌≤◌, true, List, length, sl
 ghost use Rattle.std.specs.Bool.{OnTrue};
 ghost use Rattle.kb_chain.specs.Literal.{Literal, has, is_true};
 ghost use Rattle.kb_chain.specs.Clause.{Satisfies, assignment_of, clause_true};
-ghost use Rattle.kb_eliminate.specs.Base.{Stands};
+ghost use Rattle.kb_propagate.specs.Rows.{rows_of};
+ghost use Rattle.kb_propagate.specs.Base.{Stands};
 
-use crate::NoMemory;
-use crate::base::Base;
-use crate::clauses::Clauses;
-use crate::complete::model;
 use crate::elimination::Eliminated;
 use kb_chain::{Clause, Lit, Row};
+use kb_propagate::{Base, Clauses, NoMemory, model};
 use std::alloc::Global;
 
 /// The model that the trail is, with values of the eliminated variables that make the clauses true that were let go; none where
@@ -43,7 +41,7 @@ fn restore_all(bits: &mut [bool], clauses: &Clauses, eliminated: &Eliminated) {
 
 /// Makes a literal of the clause of a number true, unless another one is.
 fn restore(bits: &mut [bool], clauses: &Clauses, literal: Lit, number: u32)
-    ensures { (row : List Literal) → slice_get clauses.now number ≡ Some row → has row literal ≡ true → literal.variable ≤ length bits.old
+    ensures { (row : List Literal) → slice_get (rows_of clauses.now) number ≡ Some row → has row literal ≡ true → literal.variable ≤ length bits.old
         → clause_true (assignment_of bits.new) row ≡ true }
 {
     if number >= clauses.len() {

@@ -7,3 +7,11 @@ pub mod MakingLaws
 pub mod StateLaws
 pub mod RunLaws
 pub mod FormedPaths
+pub mod ItemLaws
+pub mod AlikeLaws
+pub mod CellLaws
+pub mod MoreLaws
+pub mod LearnLaws
+pub mod FindLaws
+pub mod ResolveLaws
+pub mod BindLaws

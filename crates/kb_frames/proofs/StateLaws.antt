@@ -4,7 +4,7 @@ use Rattle.std.specs.Prelude.{slice_get}
 use Rattle.std.proofs.lemmas.Option.{slice_get_within}
 use Rattle.kb_class.specs.declared.ids.MethodId.{MethodId}
 use Rattle.kb_class.specs.declared.members.MethodInfo.{MethodInfo}
-use Rattle.kb_link.specs.World.{World}
+use Rattle.kb_classes.specs.World.{World}
 use Rattle.kb_semantics.specs.Config.{info_of}
 use Rattle.kb_semantics.specs.Inputs.{argument_types}
 use Rattle.kb_terms.specs.Terms.{IsPool}
@@ -42,6 +42,7 @@ start_is_state world init method info e = record {
   info = info;
   info_is = e;
   picture = no_picture world (length (argument_types world info));
+  found = λ i slot e. absurd (nothing_there i slot e);
   pool = no_terms;
   kinds = refl;
   conditions = refl;

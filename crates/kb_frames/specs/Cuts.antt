@@ -8,7 +8,7 @@ use Rattle.kb_heap.specs.declared.bounds.Bound.TheVariants.{K, Array, Alloc, Loo
 use Rattle.kb_heap.specs.declared.bounds.Bounds.{Bounds}
 use Rattle.kb_heap.specs.declared.ending.Ending.TheVariants.{Past}
 use Rattle.kb_heap.specs.declared.heap.Input.{Input}
-use Rattle.kb_link.specs.World.{World}
+use Rattle.kb_classes.specs.World.{World}
 use Rattle.kb_semantics.specs.Config.{Setting}
 use Rattle.kb_semantics.specs.Past.{IsPastK, IsPastArray}
 use Rattle.kb_semantics.specs.Step.{run_of}

@@ -2,7 +2,7 @@
 -- what was chosen (null, an object of the picture, a new one: Khurshid, Păsăreanu and Visser, TACAS 2003; some object: Deng,
 -- Lee and Robby, ASE 2006), of an int or a boolean a new variable.
 use Rattle.std.specs.Prelude.{List, [], ◌∷◌, ◌++◌, length, replicate}
-use Rattle.kb_link.specs.World.{World}
+use Rattle.kb_classes.specs.World.{World}
 use Rattle.kb_names.specs.declared.types.ExactType.{ExactType}
 use Rattle.kb_names.specs.declared.types.ExactType.TheVariants as exact
 use Rattle.kb_semantics.specs.Values.{slots_of_class}

@@ -1,7 +1,7 @@
 -- What a step reads of a state and writes into it, each the whole state afterwards. A state that reads its arguments has no
 -- frame: the writes into the current frame leave it as it is.
 use Rattle.std.specs.Prelude.{ℕ, ◌+◌, ◌-◌, List, [], ◌∷◌, ◌++◌, length, map, drop, replicate, Option, Some, None, option_and_then, slice_get, slice_set}
-use Rattle.kb_link.specs.World.{World}
+use Rattle.kb_classes.specs.World.{World}
 use Rattle.kb_semantics.specs.Config.{max_locals_of}
 use Rattle.kb_terms.specs.declared.node.Node.{Node}
 use Rattle.kb_frames.specs.declared.value.SymValue.{SymValue}

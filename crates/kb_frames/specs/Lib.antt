@@ -3,6 +3,7 @@ pub mod StandsFor
 pub mod Truths
 pub mod Cuts
 pub mod Next
+pub mod Bindings
 pub mod Stated
 pub mod States
 pub mod Heaps

@@ -1,7 +1,7 @@
 -- Objects that a run makes: each slot of a new one has the default value of its type (JVMS 8 sections 2.3, 2.4 and 6.5, new).
 use Rattle.std.specs.Prelude.{ℕ, pos, List, [], ◌∷◌, ◌++◌, map}
-use Rattle.kb_link.specs.World.{World}
-use Rattle.kb_link.specs.declared.slots.FieldSlot.{FieldSlot}
+use Rattle.kb_classes.specs.World.{World}
+use Rattle.kb_classes.specs.declared.slots.FieldSlot.{FieldSlot}
 use Rattle.kb_names.specs.declared.types.ExactType.TheVariants as exact
 use Rattle.kb_names.specs.declared.types.JType.{JType}
 use Rattle.kb_names.specs.declared.types.JType.TheVariants as types

@@ -9,7 +9,7 @@ use Rattle.kb_heap.specs.declared.heap.Object.{Object}
 use Rattle.kb_heap.specs.declared.heap.Heap.{Heap}
 use Rattle.kb_heap.specs.declared.heap.Input.{Input}
 use Rattle.kb_heap.specs.Heap.{object_at, value_at}
-use Rattle.kb_link.specs.World.{World}
+use Rattle.kb_classes.specs.World.{World}
 use Rattle.kb_semantics.specs.Config.{Setting, Frame, Config}
 use Rattle.kb_semantics.specs.Step.{first_heap, start_of, config_at}
 use Rattle.kb_semantics.specs.Looks.{Slot, stores}

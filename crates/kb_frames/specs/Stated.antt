@@ -2,44 +2,26 @@
 -- have their numbers in the pool, and a location that is known to be an object of the picture is named as that object.
 use Rattle.std.specs.Prelude.{ℕ, ◌+◌, List, [], ◌∷◌, ◌++◌, map, Option, Some, None, slice_get}
 use Rattle.std.specs.List.{cons_option}
-use Rattle.std.specs.Option.{option_map_or}
 use Rattle.kb_names.specs.declared.types.ExactType.{ExactType}
 use Rattle.kb_names.specs.declared.types.ExactType.TheVariants as exact
 use Rattle.kb_picture.specs.declared.picture.Origin.{Origin}
 use Rattle.kb_picture.specs.declared.picture.Origin.TheVariants.{Field, Element}
-use Rattle.kb_picture.specs.declared.picture.Standing.{Standing}
-use Rattle.kb_picture.specs.declared.picture.Standing.TheVariants as standings
 use Rattle.kb_picture.specs.declared.picture.PicLoc.{PicLoc}
 use Rattle.kb_picture.specs.declared.picture.PicObject.{PicObject}
 use Rattle.kb_picture.specs.declared.path.Out.{Out}
-use Rattle.kb_picture.specs.declared.path.Out.TheVariants as outs
 use Rattle.kb_picture.specs.declared.path.Write.{Write}
 use Rattle.kb_picture.specs.declared.path.Made.{Made}
 use Rattle.kb_frames.specs.declared.value.SymValue.{SymValue}
-use Rattle.kb_frames.specs.declared.value.SymValue.TheVariants.{Int, Null, Obj, Literal, New, Loc}
 use Rattle.kb_frames.specs.declared.value.Cell.{Cell}
 use Rattle.kb_frames.specs.declared.value.Cell.TheVariants.{Untouched, Read, Written}
 use Rattle.kb_frames.specs.declared.state.SymObject.{SymObject}
+use Rattle.kb_frames.specs.Bindings.{resolved}
 use Rattle.kb_frames.specs.State.{State}
 use Rattle.kb_frames.specs.StandsFor.{out_of}
 
--- a location as what it is known to be
-abbrev pub stated_standing : ℕ → Standing → Out
-stated_standing number (standings.Obj object) = outs.Obj object
-stated_standing number standings.Open = outs.Loc number
-stated_standing number standings.Beyond = outs.Loc number
-
-abbrev pub stated_loc : List PicLoc → ℕ → Out
-stated_loc locs number = option_map_or (λ (loc : PicLoc). stated_standing number loc.standing) (slice_get locs number) (outs.Loc number)
-
--- a value, as a path states it
+-- a value, as a path states it: a location that is known to be an object of the picture as that object
 abbrev pub stated : List PicLoc → SymValue → Out
-stated locs (Loc number) = stated_loc locs number
-stated locs (Int term) = out_of (Int term)
-stated locs Null = out_of Null
-stated locs (Obj number) = out_of (Obj number)
-stated locs (Literal number) = out_of (Literal number)
-stated locs (New number) = out_of (New number)
+stated locs value = out_of (resolved locs value)
 
 abbrev pub stated_values : List PicLoc → List SymValue → List Out
 stated_values locs values = map (stated locs) values

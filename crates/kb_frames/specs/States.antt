@@ -3,7 +3,7 @@ use Rattle.std.specs.Prelude.{◌≡◌, ◌≢◌, ℕ, ◌<◌, ◌≤◌, Lis
 use Rattle.kb_blast.specs.Query.{kinds_of, AreConditions}
 use Rattle.kb_blast.specs.Meaning.{OperandFits}
 use Rattle.kb_class.specs.declared.members.MethodInfo.{MethodInfo}
-use Rattle.kb_link.specs.World.{World}
+use Rattle.kb_classes.specs.World.{World}
 use Rattle.kb_names.specs.declared.types.ExactType.{ExactType}
 use Rattle.kb_names.specs.declared.types.ExactType.TheVariants as exact
 use Rattle.kb_semantics.specs.Config.{info_of, max_locals_of}
@@ -24,6 +24,7 @@ use Rattle.kb_picture.specs.declared.path.Made.{Made}
 use Rattle.kb_picture.specs.declared.path.Ended.{Ended}
 use Rattle.kb_picture.specs.declared.path.Leaf.{Leaf}
 use Rattle.kb_picture.specs.declared.path.Leaf.TheVariants.{Ended as EndedLeaf, Cut, Undecided, Open}
+use Rattle.kb_picture.specs.Finding.{IsFoundFirst}
 use Rattle.kb_picture.specs.Numbering.{ended_outs}
 use Rattle.kb_picture.specs.Queries.{kinds_seen}
 use Rattle.kb_picture.specs.WellFormed.{IsPicture, slots_seen, variables_seen, IsOpenLoc, IsThrown, AreWrites, HasValues, IsClosed}
@@ -110,6 +111,8 @@ pub record IsState (world : World) (state : State) : Type 0 where
   pub info : MethodInfo
   pub info_is : info_of world state.method ≡ Some info
   pub picture : IsPicture world (length (argument_types world info)) state.picture
+  -- each slot that it has read was found before
+  pub found : IsFoundFirst state.picture
   -- the variables of its terms are those that slots are seen as, with their kinds
   pub pool : IsPool state.nodes
   pub kinds : kinds_of state.nodes ≡ kinds_seen world state.method state.picture

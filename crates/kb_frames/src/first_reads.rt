@@ -160,8 +160,8 @@ pub(crate) fn numbered(count: usize) -> Result<u32, NoMemory>
     }
 }
 
-// The cells of an object that was found.
-fn new_cells(
+/// The cells of an object that was found.
+pub(crate) fn new_cells(
     alloc: Global,
     world: &World,
     kind: &ExactType,

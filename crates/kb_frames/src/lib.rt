@@ -5,6 +5,7 @@
 #![tactic(auto)]
 
 mod beginning;
+mod bindings;
 mod first_reads;
 mod frame;
 mod heaps;
@@ -19,7 +20,7 @@ mod truths;
 mod value;
 
 pub use kb_numbered::PathStop;
-pub use laws::{paths_are_well_formed, states_begin};
+pub use laws::{paths_are_well_formed, states_begin, states_bind, values_resolve};
 pub use next::{is_int_instruction, is_reference, variable_kind};
 pub use state::{SymState, start};
 pub use std::alloc::AllocError as NoMemory;

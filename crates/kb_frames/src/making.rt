@@ -1,6 +1,6 @@
 //! Objects that a run makes.
 ghost use Rattle.std.specs.Prelude.{◌≡◌, pos, length, map, IfOk, OnOk};
-ghost use Rattle.kb_link.specs.declared.slots.FieldSlot.{FieldSlot as PlainSlot};
+ghost use Rattle.kb_classes.specs.declared.slots.FieldSlot.{FieldSlot as PlainSlot};
 ghost use Rattle.kb_terms.specs.Terms.{interned};
 ghost use Rattle.kb_terms.specs.declared.node.Node.TheVariants.{Const};
 ghost use Rattle.kb_frames.specs.Making.{default_sym, new_sym_object, with_made};

@@ -1,6 +1,6 @@
 //! The path of a state.
 ghost use Rattle.std.specs.Prelude.{◌≡◌, IfOk, IfErr};
-ghost use Rattle.kb_link.specs.World.{World};
+ghost use Rattle.kb_classes.specs.World.{World};
 ghost use Rattle.kb_terms.specs.Terms.{AreTerms};
 ghost use Rattle.kb_picture.specs.WellFormed.{IsWellFormed};
 ghost use Rattle.kb_frames.specs.States.{IsState, IsLeafIn};

@@ -2,13 +2,14 @@
 ghost use Rattle.std.specs.Prelude.{◌≡◌, [], ◌++◌, slice_get, IfOk, OnOk};
 ghost use Rattle.std.specs.List.{cons_option};
 ghost use Rattle.std.specs.Option.{option_copied};
-ghost use Rattle.kb_frames.specs.Stated.{stated_loc, stated, stated_values, stated_object, made_of, slot_in, write_of, slot_writes, object_writes, writes_of};
+ghost use Rattle.kb_frames.specs.Stated.{stated, stated_values, stated_object, made_of, slot_in, write_of, slot_writes, object_writes, writes_of};
 
 use crate::NoMemory;
+use crate::bindings::resolved;
 use crate::state::{SymObject, SymState};
 use crate::value::{Cell, SymValue};
 use kb_names::ExactType;
-use kb_picture::{Made, Origin, Out, PicLoc, PicObject, Standing, Write};
+use kb_picture::{Made, Origin, Out, PicLoc, PicObject, Write};
 use kb_rows::Row;
 use kb_terms::Operand;
 use std::alloc::Global;
@@ -125,25 +126,13 @@ fn slot_in(kind: &ExactType, object: u32, slot: u32) -> Origin
 fn stated(locs: &[PicLoc], value: SymValue) -> Out
     ensures { result ≡ stated locs.now value }
 {
-    match value {
+    match resolved(locs, value) {
         SymValue::Int(term) => Out::Int(Operand::Term(term.0)),
         SymValue::Null => Out::Null,
         SymValue::Obj(number) => Out::Obj(number),
         SymValue::Literal(number) => Out::Literal(number),
         SymValue::New(number) => Out::New(number),
-        SymValue::Loc(number) => stated_loc(locs, number),
-    }
-}
-
-fn stated_loc(locs: &[PicLoc], number: u32) -> Out
-    ensures { result ≡ stated_loc locs.now number }
-{
-    match locs.get(number as usize) {
-        Some(loc) => match loc.standing {
-            Standing::Obj(object) => Out::Obj(object),
-            Standing::Open | Standing::Beyond => Out::Loc(number),
-        },
-        None => Out::Loc(number),
+        SymValue::Loc(number) => Out::Loc(number),
     }
 }
 

@@ -13,7 +13,7 @@ use Rattle.kb_heap.specs.declared.heap.Object.{Object}
 use Rattle.kb_heap.specs.declared.heap.Value.{Value}
 use Rattle.kb_heap.specs.declared.heap.Value.TheVariants.{Int as IntValue}
 use Rattle.kb_heap.specs.Heap.{with_value, literal}
-use Rattle.kb_link.specs.World.{World}
+use Rattle.kb_classes.specs.World.{World}
 use Rattle.kb_semantics.specs.Config.{Ended as RunEnded}
 use Rattle.kb_semantics.specs.Step.{first_heap}
 use Rattle.kb_terms.specs.Numbering.{IsNumbering, is_operation, place_of}
@@ -26,7 +26,6 @@ use Rattle.kb_picture.specs.declared.path.Leaf.{Leaf}
 use Rattle.kb_picture.specs.declared.path.Leaf.TheVariants.{Ended as EndedLeaf}
 use Rattle.kb_picture.specs.declared.path.Made.{Made}
 use Rattle.kb_picture.specs.declared.path.Out.{Out}
-use Rattle.kb_picture.specs.declared.path.Out.TheVariants as outs
 use Rattle.kb_picture.specs.declared.path.SymEnding.{SymEnding}
 use Rattle.kb_picture.specs.declared.path.SymEnding.TheVariants.{Returned, Threw, IllTyped}
 use Rattle.kb_picture.specs.declared.path.Write.{Write}
@@ -48,10 +47,11 @@ use Rattle.kb_numbered.specs.Numbered.{numbered_ended, numbered_ending, numbered
 use Rattle.kb_frames.specs.declared.state.SymObject.{SymObject}
 use Rattle.kb_frames.specs.declared.value.SymValue.{SymValue}
 use Rattle.kb_frames.specs.declared.value.SymValue.TheVariants.{Int, Null, Obj, Literal, New, Loc}
+use Rattle.kb_frames.specs.Bindings.{resolved_loc, standing_value}
 use Rattle.kb_frames.specs.Paths.{path_numbering, path_of, path_roots}
-use Rattle.kb_frames.specs.StandsFor.{HeapStandsFor, IsInstanceOf, made_at, reading_at, value_of_sym}
+use Rattle.kb_frames.specs.StandsFor.{HeapStandsFor, IsInstanceOf, made_at, out_of, reading_at, value_of_sym}
 use Rattle.kb_frames.specs.State.{State}
-use Rattle.kb_frames.specs.Stated.{made_of, stated, stated_loc, stated_object, stated_standing, writes_of}
+use Rattle.kb_frames.specs.Stated.{made_of, stated, stated_object, writes_of}
 use Rattle.kb_frames.specs.States.{Each, IsEndedIn, IsOutIn, IsState, IsSymValue}
 use Rattle.kb_frames.proofs.FormedPaths.{roots_are_terms}
 use Rattle.kb_frames_laws.specs.Endings.{EndingsMean, IsEndingIn, HasNoLocBeyond, ended_in}
@@ -95,17 +95,17 @@ module _ (world : World) (state : State) (formed : IsState world state) (none : 
 
   standing_in : (number : ℕ) (loc : PicLoc) → slice_get state.picture.locs number ≡ Some loc → (standing : Standing)
       → loc.standing ≡ standing
-      → IsOutIn world state (length state.made) (stated_standing number standing)
+      → IsOutIn world state (length state.made) (out_of (standing_value number standing))
   standing_in number loc at (standings.Obj object) e = subst (IsStanding state.picture) e (formed.picture.locs number loc at).1
   standing_in number loc at standings.Open e = (loc, at, e)
   standing_in number loc at standings.Beyond e = absurd (none number loc at e)
 
   abbrev IsStatedIn : ℕ → Option PicLoc → Type 0
   IsStatedIn number it =
-      IsOutIn world state (length state.made) (option_map_or (λ (loc : PicLoc). stated_standing number loc.standing) it (outs.Loc number))
+      IsOutIn world state (length state.made) (out_of (option_map_or (λ (loc : PicLoc). standing_value number loc.standing) it (Loc number)))
 
   loc_in : (number : ℕ) → number < length state.picture.locs
-      → IsOutIn world state (length state.made) (stated_loc state.picture.locs number)
+      → IsOutIn world state (length state.made) (out_of (resolved_loc state.picture.locs number))
   loc_in number inside =
       let there = item_there state.picture.locs number inside in
       subst (IsStatedIn number) (sym there.1)

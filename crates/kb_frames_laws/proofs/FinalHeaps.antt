@@ -1,7 +1,6 @@
 -- Where a state stands for a heap, that heap has the input's objects with what the state keeps as written, then the literals,
 -- then what the run made.
 use Rattle.std.proofs.Common.{◌≡◌, ◌≢◌, ◌⊎◌, inl, inr, ℕ, zero, suc, ◌+◌, ◌<◌, ◌≤◌, List, [], ◌∷◌, ◌++◌, length, length-append, map, take, drop, fold, replicate, Option, Some, None, option_map, slice_get, refl, sym, ap, ◌∙◌, subst, arith}
-use Rattle.std.specs.Option.{option_map_or}
 use Rattle.std.proofs.lemmas.Bool.{cases_eq, cases_lt}
 use Rattle.std.proofs.lemmas.List.{length-replicate, take-append-drop}
 use Rattle.std.proofs.lemmas.Option.{get_or_from_slice_get, slice_get-get_or, slice_get_within}
@@ -11,18 +10,14 @@ use Rattle.kb_heap.specs.declared.heap.Input.{Input}
 use Rattle.kb_heap.specs.declared.heap.Object.{Object}
 use Rattle.kb_heap.specs.declared.heap.Value.TheVariants.{Ref}
 use Rattle.kb_heap.specs.Heap.{object_at, value_at, literal}
-use Rattle.kb_link.specs.World.{World}
+use Rattle.kb_classes.specs.World.{World}
 use Rattle.kb_semantics.specs.Step.{first_heap}
 use Rattle.kb_terms.proofs.Entries.{slice_get-append-left}
-use Rattle.kb_picture.specs.declared.path.Out.TheVariants as outs
 use Rattle.kb_picture.specs.declared.path.Write.{Write}
-use Rattle.kb_picture.specs.declared.picture.PicLoc.{PicLoc}
 use Rattle.kb_picture.specs.declared.picture.Picture.{Picture}
 use Rattle.kb_picture.specs.declared.picture.PlaceLists.{PlaceLists}
-use Rattle.kb_picture.specs.declared.picture.Standing.{Standing}
-use Rattle.kb_picture.specs.declared.picture.Standing.TheVariants as standings
 use Rattle.kb_picture.specs.Endings.{Reading, out_value, place_at, with_write}
-use Rattle.kb_picture.specs.Shapes.{AreApart, EachStands, HasShape, IsNoPlace, Stands}
+use Rattle.kb_picture.specs.Shapes.{AreApart, EachStands, HasShape, IsNoPlace}
 use Rattle.kb_picture.proofs.ChainLaws.{all_below, below_at}
 use Rattle.kb_picture.proofs.GrownPictures.{item_there}
 use Rattle.kb_picture.proofs.GrownShapes.{as_many, at_no_place, locs_many, no_place}
@@ -30,11 +25,11 @@ use Rattle.kb_picture.proofs.TableLaws.{AreBelow}
 use Rattle.kb_frames.specs.declared.value.Cell.{Cell}
 use Rattle.kb_frames.specs.declared.value.Cell.TheVariants.{Untouched, Read, Written}
 use Rattle.kb_frames.specs.declared.value.SymValue.{SymValue}
-use Rattle.kb_frames.specs.declared.value.SymValue.TheVariants.{Int, Null, Obj, Literal, New, Loc}
 use Rattle.kb_frames.specs.StandsFor.{HeapStandsFor, IsLike, made_at, present_value, value_of_sym}
 use Rattle.kb_frames.specs.State.{State, cell_at}
-use Rattle.kb_frames.specs.Stated.{stated, stated_loc, stated_standing, writes_of}
+use Rattle.kb_frames.specs.Stated.{stated, writes_of}
 use Rattle.kb_frames.specs.States.{AreCells}
+use Rattle.kb_frames.proofs.ResolveLaws.{resolved_same}
 use Rattle.kb_frames_laws.proofs.HeapWrites.{comes, goes_to, like_both, like_slot, not_written, placed, same_object, slot_of, writes_like, writes_size}
 use Rattle.kb_frames_laws.proofs.WrittenLaws.{IsOfWritten, cell_is, cell_there, of_written, slot_named, write_at, written_has}
 
@@ -95,38 +90,9 @@ are_places picture input shape = record {
 module _ (world : World) (state : State) (r : Reading) (are : ArePlaces state.picture r.inputs r.places) where
   -- ---- values
 
-  -- a location that is known to be an object has that object's place
-  standing_value : (number : ℕ) (loc : PicLoc) → slice_get state.picture.locs number ≡ Some loc → (standing : Standing)
-      → loc.standing ≡ standing
-      → out_value r (stated_standing number standing) ≡ value_of_sym r (Loc number)
-  standing_value number loc at (standings.Obj object) e =
-      let inside : number < length r.places.locs = omega (arith, are.locs, slice_get_within state.picture.locs number loc at) in
-      let place = item_there r.places.locs number inside in
-      let stands : Stands r.places.objects (standings.Obj object) place.0 =
-      subst (λ (s : Standing). Stands r.places.objects s place.0) e (are.stands number place.0 loc at place.1) in
-      let same : place_at r.places.objects object ≡ place_at r.places.locs number =
-      get_or_from_slice_get r.places.objects object place.0 0 stands
-      ∙ sym (get_or_from_slice_get r.places.locs number place.0 0 place.1) in
-      ap (λ (n : ℕ). Ref n) same
-  standing_value number loc at standings.Open e = refl
-  standing_value number loc at standings.Beyond e = refl
-
-  loc_value : (number : ℕ) → out_value r (stated_loc state.picture.locs number) ≡ value_of_sym r (Loc number)
-  loc_value number = go (slice_get state.picture.locs number) refl
-    where
-      go : (it : Option PicLoc) → slice_get state.picture.locs number ≡ it
-          → out_value r (option_map_or (λ (loc : PicLoc). stated_standing number loc.standing) it (outs.Loc number)) ≡ value_of_sym r (Loc number)
-      go None e = refl
-      go (Some loc) e = standing_value number loc e loc.standing refl
-
   -- what is stated of a value has that value at the input
   pub stated_value : (value : SymValue) → out_value r (stated state.picture.locs value) ≡ value_of_sym r value
-  stated_value (Int t) = refl
-  stated_value Null = refl
-  stated_value (Obj number) = refl
-  stated_value (Literal number) = refl
-  stated_value (New number) = refl
-  stated_value (Loc number) = loc_value number
+  stated_value value = resolved_same state r are.locs are.stands value
 
   -- ---- the heap
 

@@ -8,7 +8,7 @@ use Rattle.kb_blast.specs.Meaning.{AreMet, AreMetInPool, listed_values, operand_
 use Rattle.kb_blast.specs.Query.{AreConditions, is_comparison, listed, node_passes, number_in, numbered_conditions, operand_from, operand_of, roots_of as condition_roots}
 use Rattle.kb_blast.proofs.Pooled.{Placed, at-place, met-in-list, met-in-pool, placed, value-at}
 use Rattle.kb_heap.specs.declared.heap.Input.{Input}
-use Rattle.kb_link.specs.World.{World}
+use Rattle.kb_classes.specs.World.{World}
 use Rattle.kb_semantics.specs.Comparisons.{Relation}
 use Rattle.kb_terms.specs.Numbering.{IsNumbering, IsOperandOf, is_operation, place_of}
 use Rattle.kb_terms.specs.Op.{is_binary}

@@ -9,7 +9,7 @@ use Rattle.std.proofs.lemmas.List.Sums.{fold-append}
 use Rattle.std.proofs.lemmas.Option.{slice_get_within}
 use Rattle.kb_blast.specs.Query.{AreConditions, is_comparison, listed, listed_from, node_passes, number_in, numbered_conditions, operand_from, operand_of, query_of, roots_of as condition_roots}
 use Rattle.kb_blast.proofs.Pooled.{at-place}
-use Rattle.kb_link.specs.World.{World}
+use Rattle.kb_classes.specs.World.{World}
 use Rattle.kb_semantics.specs.Looks.{numbers_below}
 use Rattle.kb_terms.specs.Numbering.{IsNumbering, IsOperandOf, is_operation, numbering, place_of, visit}
 use Rattle.kb_terms.specs.Terms.{IsTerm, node_at}

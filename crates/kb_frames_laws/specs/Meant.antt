@@ -2,7 +2,7 @@
 use Rattle.std.specs.Prelude.{◌≡◌, ◌↔◌, ℕ, Bool, List, length, take, Some, slice_get}
 use Rattle.kb_heap.specs.declared.heap.Input.{Input}
 use Rattle.kb_blast.specs.Query.{query_of}
-use Rattle.kb_link.specs.World.{World}
+use Rattle.kb_classes.specs.World.{World}
 use Rattle.kb_terms.specs.declared.node.TermId.{TermId}
 use Rattle.kb_picture.specs.declared.path.Leaf.{Leaf}
 use Rattle.kb_picture.specs.Instances.{IsInstance, variable_values, with_conditions}

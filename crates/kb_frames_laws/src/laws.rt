@@ -1,6 +1,6 @@
 //! What the paths of states say of inputs. The functions do nothing: they carry the laws.
 ghost use Rattle.std.specs.Prelude.{ℕ, List};
-ghost use Rattle.kb_link.specs.World.{World};
+ghost use Rattle.kb_classes.specs.World.{World};
 ghost use Rattle.kb_picture.specs.declared.path.Leaf.{Leaf};
 ghost use Rattle.kb_frames.specs.State.{State};
 ghost use Rattle.kb_frames.specs.States.{IsState, IsLeafIn};

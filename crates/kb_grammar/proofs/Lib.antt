@@ -6,3 +6,5 @@ pub mod WordLaws
 pub mod NumberLaws
 pub mod LineLaws
 pub mod FormatLaws
+pub mod ReadLaws
+pub mod ListLaws

@@ -11,9 +11,9 @@ use mir.Syntax.{w32, w64}
 use mir.Val.{to_z, of_z}
 use Rattle.std.proofs.lemmas.Int.{ints, to_z-of_z}
 use Rattle.std.specs.Result.{result_ok}
-use Rattle.kb_grammar.specs.Lines.{Lacks, IsRead}
+use Rattle.kb_grammar.specs.Lines.{Lacks, IsTail, IsRead}
 use Rattle.kb_grammar.specs.Numbers.{SpellsWithin, SpellsNumber, SpellsInt, with_digit, with_digits}
-use Rattle.kb_grammar.proofs.WordLaws.{Lacks-++, same_cut, same_behind}
+use Rattle.kb_grammar.proofs.WordLaws.{Lacks-++, same_cut, same_behind, same_first}
 
 pub Lacks-decimal : (byte number : ℕ) → byte < 48 → number < 2 ^ 64 → Lacks byte (decimal number)
 Lacks-decimal byte number lt small =
@@ -40,6 +40,13 @@ same_number front m n us vs p q e =
     let small_n : n < 2 ^ 64 = omega arith in
     let cuts = same_cut 32 (decimal m) (decimal n) us vs (Lacks-decimal 32 m (omega arith) small_m) (Lacks-decimal 32 n (omega arith) small_n) (same_behind front _ _ e) in
     (decimal_injective m n small_m small_n cuts.0, cuts.1)
+
+pub same_numbered : (end : ℕ) (front : List ℕ) (m n : ℕ) (us vs : List ℕ) → end < 48 → m < 2 ^ 32 → n < 2 ^ 32 → IsTail end us → IsTail end vs → front ++ (decimal m ++ us) ≡ front ++ (decimal n ++ vs) → (m ≡ n) × (us ≡ vs)
+same_numbered end front m n us vs low p q h k e =
+    let small_m : m < 2 ^ 64 = omega (arith, p) in
+    let small_n : n < 2 ^ 64 = omega (arith, q) in
+    let parts = same_first end (decimal m) (decimal n) us vs (Lacks-decimal end m low small_m) (Lacks-decimal end n low small_n) h k (same_behind front (decimal m ++ us) (decimal n ++ vs) e) in
+    (decimal_injective m n small_m small_n parts.0, parts.1)
 
 -- a digit that was taken
 record IsTaken (limit number byte longer : ℕ) : Type 0 where

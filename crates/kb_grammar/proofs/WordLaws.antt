@@ -1,6 +1,6 @@
 -- Words and the bytes that they lack.
-use Rattle.std.proofs.Common.{◌≡◌, ℕ, List, [], ◌∷◌, ◌++◌, refl}
-use Rattle.kb_grammar.specs.Lines.{Lacks}
+use Rattle.std.proofs.Common.{◌≡◌, ℕ, Bool, true, false, ◌==◌, ne_eqb, List, [], ◌∷◌, ◌++◌, length, refl, sym, ◌∙◌, ap, arith}
+use Rattle.kb_grammar.specs.Lines.{Lacks, IsTail}
 
 pub Lacks-++ : (byte : ℕ) (xs ys : List ℕ) → Lacks byte xs → Lacks byte ys → Lacks byte (xs ++ ys)
 Lacks-++ byte [] ys p q = q
@@ -27,3 +27,27 @@ not_lacking byte (x ∷ xs) us (v ∷ vs) p e = let tails : xs ++ byte ∷ us �
 pub same_behind : (front xs ys : List ℕ) → front ++ xs ≡ front ++ ys → xs ≡ ys
 same_behind [] xs ys e = e
 same_behind (f ∷ front) xs ys e = let tails : front ++ xs ≡ front ++ ys = cc in same_behind front xs ys tails
+
+-- the first parts of one text
+pub same_first : (end : ℕ) (xs ys us vs : List ℕ) → Lacks end xs → Lacks end ys → IsTail end us → IsTail end vs → xs ++ us ≡ ys ++ vs → (xs ≡ ys) × (us ≡ vs)
+same_first end [] [] us vs p q h k e = (refl, e)
+same_first end [] (y ∷ ys) [] vs p q h k e = cc
+same_first end [] (y ∷ ys) (u ∷ us) vs p q h k e = let head : y ≡ end = cc in absurd (q.0 head)
+same_first end (x ∷ xs) [] us [] p q h k e = cc
+same_first end (x ∷ xs) [] us (v ∷ vs) p q h k e = let head : x ≡ end = cc in absurd (p.0 head)
+same_first end (x ∷ xs) (y ∷ ys) us vs p q h k e =
+    let tails : xs ++ us ≡ ys ++ vs = cc in
+    let head : x ≡ y = cc in
+    let rest : (xs ≡ ys) × (us ≡ vs) = same_first end xs ys us vs p.1 q.1 h k tails in
+    (cc, rest.1)
+
+-- whether something is left
+pub some_left : (rest : List ℕ) (empty : Bool) → empty ≡ (length rest == 0) → empty ≡ false → rest ≡ [] → ⊥
+some_left rest empty is not e = let here : (length rest == 0) ≡ true = ap (λ (l : List ℕ). length l == 0) e in cc
+
+pub none_left : (rest : List ℕ) (empty : Bool) → empty ≡ (length rest == 0) → empty ≡ true → rest ≡ []
+none_left [] empty is so = refl
+none_left (byte ∷ bytes) empty is so = absurd (not_so (ne_eqb (length (byte ∷ bytes)) 0 (omega arith)) (sym is ∙ so))
+  where
+    not_so : {b : Bool} → b ≡ false → b ≡ true → ⊥
+    not_so e f = cc

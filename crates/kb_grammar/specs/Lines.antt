@@ -11,6 +11,11 @@ abbrev pub Lacks : ℕ → List ℕ → Type 0
 Lacks byte [] = Unit {0}
 Lacks byte (first ∷ others) = (first ≢ byte) × Lacks byte others
 
+-- what stands behind a part that ends at that byte: nothing, or the byte first
+abbrev pub IsTail : ℕ → List ℕ → Type 0
+IsTail end [] = Unit {0}
+IsTail end (byte ∷ bytes) = byte ≡ end
+
 -- none of them has a line feed
 abbrev pub AreLines : List (List ℕ) → Type 0
 AreLines [] = Unit {0}

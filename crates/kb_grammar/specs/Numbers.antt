@@ -1,5 +1,5 @@
 -- Numbers with one spelling each: digits without a leading zero, and a `-` before those of a negative one.
-use Rattle.std.specs.Prelude.{◌≡◌, ℕ, ◌+◌, ◌-◌, ◌*◌, ◌≤◌, ◌<◌, ◌^◌, ◌&&◌, nat_le, Option, None, Some, List, [], ◌∷◌, if◌then◌else◌, ℤ, option_and_then}
+use Rattle.std.specs.Prelude.{◌≡◌, ℕ, ◌+◌, ◌-◌, ◌*◌, ◌≤◌, ◌<◌, ◌^◌, ◌&&◌, nat_le, Option, None, Some, List, [], ◌∷◌, ◌++◌, if◌then◌else◌, ℤ, option_and_then}
 use Rattle.std.specs.Fmt.{decimal, signed_decimal}
 use Rattle.std.specs.Int.RustNames.{FitsSigned}
 use mir.Syntax.{w32}
@@ -11,6 +11,10 @@ SpellsWithin limit number text = (number ≤ limit) × (text ≡ decimal number)
 -- a number of 32 bits
 abbrev pub SpellsNumber : ℕ → List ℕ → Type 0
 SpellsNumber number text = (number < 2 ^ 32) × (text ≡ decimal number)
+
+-- a number of 32 bits behind that front
+abbrev pub SpellsNumberBehind : List ℕ → ℕ → List ℕ → Type 0
+SpellsNumberBehind front number text = (number < 2 ^ 32) × (text ≡ front ++ decimal number)
 
 -- an int
 abbrev pub SpellsInt : ℤ → List ℕ → Type 0

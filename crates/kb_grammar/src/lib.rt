@@ -16,8 +16,10 @@ ghost use Rattle.kb_grammar.specs.Reading.{number, run};
 ghost use Rattle.kb_grammar.specs.Grammar.{Exact, IsNumber, IsRunOf};
 
 pub use lines::{LineFormat, LineRefusal, read_lines};
-pub use numbers::{number_behind, number_within, read_int, read_number};
-pub use words::{behind, cut, is_line};
+pub use numbers::{
+    last_number, number_before, number_behind, number_within, read_int, read_number,
+};
+pub use words::{behind, cut, first_part, is_line};
 
 /// A number of any width is read exactly where its bytes are whole, and a run of bytes likewise. One that is not whole has the
 /// offset at which it begins.

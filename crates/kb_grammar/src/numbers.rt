@@ -1,10 +1,10 @@
 //! Numbers with one spelling each, read digit by digit: no leading zero, no `-0`, no number above its range.
 ghost use Rattle.std.specs.Prelude.{◌≡◌, ℕ, List, ◌∷◌, ◌++◌, ◌<◌, ◌^◌, MatchOption};
 ghost use Rattle.std.specs.Fmt.{decimal};
-ghost use Rattle.kb_grammar.specs.Lines.{IsRead};
-ghost use Rattle.kb_grammar.specs.Numbers.{SpellsWithin, SpellsNumber, SpellsInt, with_digit, with_digits};
+ghost use Rattle.kb_grammar.specs.Lines.{IsRead, IsTail};
+ghost use Rattle.kb_grammar.specs.Numbers.{SpellsWithin, SpellsNumber, SpellsNumberBehind, SpellsInt, with_digit, with_digits};
 
-use crate::words::{behind, cut};
+use crate::words::{behind, cut, first_part};
 
 // The number with one digit more behind it, if it stays within the limit.
 fn with_digit(number: u32, byte: u8, limit: u32) -> Option<u32>
@@ -80,6 +80,13 @@ pub fn read_int(word: &[u8]) -> Option<i32>
     }
 }
 
+/// The number that stands behind that front, up to the end.
+pub fn last_number(text: &[u8], front: &[u8]) -> Option<u32>
+    ensures { IsRead (SpellsNumberBehind front.now) text.now result }
+{
+    read_number(behind(text, front)?)
+}
+
 /// The number that stands behind that front and before a space, and what stands behind the space.
 pub fn number_behind<'a>(text: &'a [u8], front: &[u8]) -> Option<(u32, &'a [u8])>
     ensures { MatchOption result
@@ -87,5 +94,16 @@ pub fn number_behind<'a>(text: &'a [u8], front: &[u8]) -> Option<(u32, &'a [u8])
         (λ parts. (parts.0 < 2 ^ 32) × (text.now ≡ front.now ++ (decimal parts.0 ++ 32 ∷ parts.1.now))) }
 {
     let (word, rest) = cut(behind(text, front)?, b' ')?;
+    Some((read_number(word)?, rest))
+}
+
+/// The number that stands behind that front, and what stands behind it: nothing, or such a byte first.
+pub fn number_before<'a>(text: &'a [u8], front: &[u8], end: u8) -> Option<(u32, &'a [u8])>
+    requires { end < 48 }
+    ensures { MatchOption result
+        ((number : ℕ) (rest : List ℕ) → number < 2 ^ 32 → IsTail end rest → text.now ≡ front.now ++ (decimal number ++ rest) → ⊥)
+        (λ parts. (parts.0 < 2 ^ 32) × IsTail end parts.1.now × (text.now ≡ front.now ++ (decimal parts.0 ++ parts.1.now))) }
+{
+    let (word, rest) = first_part(behind(text, front)?, end);
     Some((read_number(word)?, rest))
 }

@@ -1,6 +1,6 @@
 //! Lines and the words in them.
 ghost use Rattle.std.specs.Prelude.{◌≡◌, ◌↔◌, IsTrue, ℕ, List, ◌∷◌, ◌++◌, MatchOption};
-ghost use Rattle.kb_grammar.specs.Lines.{Lacks};
+ghost use Rattle.kb_grammar.specs.Lines.{Lacks, IsTail};
 
 /// The parts before and behind the first such byte.
 pub fn cut(text: &[u8], byte: u8) -> Option<(&[u8], &[u8])>
@@ -12,6 +12,18 @@ pub fn cut(text: &[u8], byte: u8) -> Option<(&[u8], &[u8])>
         }
     }
     None
+}
+
+/// What stands before the first such byte, and the rest with that byte; the whole text, and nothing, where there is none.
+pub fn first_part(text: &[u8], end: u8) -> (&[u8], &[u8])
+    ensures part { Lacks end result.0.now }
+    ensures rest { IsTail end result.1.now }
+    ensures text { text.now ≡ result.0.now ++ result.1.now }
+{
+    match cut(text, end) {
+        Some((part, _)) => (part, &text[part.len()..]),
+        None => (text, &[]),
+    }
 }
 
 /// Whether the line is that text.

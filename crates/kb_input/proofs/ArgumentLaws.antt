@@ -3,7 +3,7 @@ use Rattle.std.proofs.Common.{◌≡◌, ℕ, [], Option, Some, None, slice_get,
 use Rattle.std.specs.Option.{option_map_or}
 use Rattle.kb_class.specs.declared.ids.MethodId.{MethodId}
 use Rattle.kb_class.specs.declared.members.MethodInfo.{MethodInfo}
-use Rattle.kb_link.specs.World.{World}
+use Rattle.kb_classes.specs.World.{World}
 use Rattle.kb_semantics.specs.Config.{info_of}
 use Rattle.kb_semantics.specs.Inputs.{argument_types}
 use Rattle.kb_input.specs.Emitted.{arguments_of}

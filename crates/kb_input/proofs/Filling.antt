@@ -9,8 +9,8 @@ use Rattle.kb_heap.specs.declared.heap.Object.{Object}
 use Rattle.kb_heap.specs.declared.heap.Heap.{Heap}
 use Rattle.kb_heap.specs.declared.heap.Input.{Input}
 use Rattle.kb_heap.specs.Heap.{object_at, value_at, object_with, with_object_at, with_value}
-use Rattle.kb_link.specs.World.{World}
-use Rattle.kb_link.specs.declared.slots.FieldSlot.{FieldSlot}
+use Rattle.kb_classes.specs.World.{World}
+use Rattle.kb_classes.specs.declared.slots.FieldSlot.{FieldSlot}
 use Rattle.kb_names.specs.declared.types.ExactType.{ExactType}
 use Rattle.kb_names.specs.declared.types.ExactType.TheVariants as exact
 use Rattle.kb_names.specs.declared.types.JType.{JType}

@@ -1,6 +1,6 @@
 -- What is known of types, with one more.
 use Rattle.std.proofs.Common.{◌≡◌, inl, inr, List, [], ◌∷◌, ◌++◌}
-use Rattle.kb_link.specs.World.{World}
+use Rattle.kb_classes.specs.World.{World}
 use Rattle.kb_names.specs.declared.types.JType.{JType}
 use Rattle.kb_input.specs.declared.fitting.Fitting.{Fitting}
 use Rattle.kb_input.specs.Fitting.{IsFitting, AreFitting, IsKnown}

@@ -15,9 +15,9 @@ use Rattle.kb_heap.specs.declared.heap.Object.{Object}
 use Rattle.kb_heap.specs.declared.heap.Heap.{Heap}
 use Rattle.kb_heap.specs.declared.heap.Input.{Input}
 use Rattle.kb_heap.specs.Heap.{object_at, value_at}
-use Rattle.kb_link.proofs.Claiming.{taken_next}
-use Rattle.kb_link.specs.World.{World}
-use Rattle.kb_link.specs.declared.slots.FieldSlot.{FieldSlot}
+use Rattle.kb_classes.proofs.Walks.{taken_next}
+use Rattle.kb_classes.specs.World.{World}
+use Rattle.kb_classes.specs.declared.slots.FieldSlot.{FieldSlot}
 use Rattle.kb_names.specs.declared.types.ExactType.{ExactType}
 use Rattle.kb_names.specs.declared.types.ExactType.TheVariants as exact
 use Rattle.kb_names.specs.declared.types.JType.{JType}
@@ -50,11 +50,12 @@ use Rattle.kb_picture.specs.Queries.{type_of_slot, slot_of_class, component_of, 
 use Rattle.kb_picture.specs.Shapes.{HasShape, HoldEach, HoldsSeen, IsNoPlace, AreApart, AreSuch, IsSuch, HasLength, EachStands, Stands}
 use Rattle.kb_picture.specs.WellFormed.{IsSlot, HasSlot, HasElement, IsLengthOf, IsStanding, variable_seen, variables_seen, slots_seen}
 use Rattle.kb_picture.specs.WellTyped.{SeenFits, SeenFitsDeclared, LocFits, StandingFits, SomeFits, IsIntLength, is_int_type}
-use Rattle.kb_link.specs.Subtypes.{fits}
-use Rattle.kb_link.specs.declared.linking.What.TheVariants as whats
+use Rattle.kb_classes.specs.Subtypes.{fits}
+use Rattle.kb_classes.specs.declared.refusal.What.TheVariants as whats
 use Rattle.kb_picture.proofs.HeldLaws.{all_at}
-use Rattle.kb_world.specs.Faults.{Fault, Outside, is_left_out, has_left_out}
-use Rattle.kb_world.specs.Lookup.{or_else, only_where}
+use Rattle.kb_universe.specs.Faults.{Fault, Outside}
+use Rattle.kb_resolution.specs.LeftOut.{is_left_out, has_left_out}
+use Rattle.kb_resolution.specs.Lookup.{or_else, only_where}
 use Rattle.kb_world.specs.Reach.{static_fault, target_fault}
 use Rattle.kb_input.proofs.Filling.{AreTwo, SlotTakes, FieldTakes, ElementTakes, HeldTakes, IsFilled, KeepsTypes, AreAllTwo, IsNone, IsThere, cell_value, all_filled, all_held}
 use Rattle.kb_input.proofs.KindLaws.{kind_of, SameKinds, values_like, object_values_like}
@@ -166,7 +167,7 @@ module _ (world : World) (id : MethodId) (picture : Picture) (values : List ℤ)
   -- the slot that was read
   read_there : (i : ℕ) (slot : Origin) (how : Seen) → slice_get picture.seen i ≡ Some (slot, how) → IsSlot world (length (argument_types world h.typed.method)) picture.objects slot
   read_there i slot how at =
-      (h.typed.formed.slots i slot (slice_get-map (λ (x : Origin × Seen). x.0) picture.seen i ∙ ap (option_map (λ (x : Origin × Seen). x.0)) at)).0
+      h.typed.formed.slots i slot (slice_get-map (λ (x : Origin × Seen). x.0) picture.seen i ∙ ap (option_map (λ (x : Origin × Seen). x.0)) at)
 
   held_takes : (i : ℕ) (x : Origin × Value) → slice_get held i ≡ Some x → HeldTakes world (arguments_of world id) base x
   held_takes i x at =

@@ -12,10 +12,10 @@ use Rattle.kb_heap.specs.declared.heap.Value.{Value}
 use Rattle.kb_heap.specs.declared.heap.Value.TheVariants.{Int as IntValue, Null as NullValue, Ref}
 use Rattle.kb_heap.specs.declared.heap.Heap.{Heap}
 use Rattle.kb_heap.specs.Heap.{object_at}
-use Rattle.kb_link.proofs.MethodNumbers.{get_before, get_behind}
-use Rattle.kb_link.proofs.Places.{get_pushed}
-use Rattle.kb_link.specs.Subtypes.{fits}
-use Rattle.kb_link.specs.World.{World}
+use Rattle.kb_classes.proofs.MethodNumbers.{get_before, get_behind}
+use Rattle.kb_classes.proofs.Places.{get_pushed}
+use Rattle.kb_classes.specs.Subtypes.{fits}
+use Rattle.kb_classes.specs.World.{World}
 use Rattle.kb_names.specs.declared.types.ExactType.{ExactType}
 use Rattle.kb_names.specs.declared.types.JType.{JType}
 use Rattle.kb_names.specs.declared.types.JType.TheVariants as types

@@ -12,10 +12,10 @@ use Rattle.kb_class.specs.Naming.{Has}
 use Rattle.kb_class.specs.declared.members.FieldInfo.{FieldInfo}
 use Rattle.kb_class.specs.Members.{is_static}
 use Rattle.kb_heap.specs.declared.heap.Heap.{Heap}
-use Rattle.kb_link.specs.Slots.{Declared, has_slot_type, has_slot, slots_among, own_slots_there, own_slots_at, numbered, slots_of}
-use Rattle.kb_link.specs.Universe.{IsElement, IsUniverse, AreNamedPlatform, exact_class, given_types, is_given, is_concrete}
-use Rattle.kb_link.specs.World.{World, number_in}
-use Rattle.kb_link.specs.declared.slots.FieldSlot.{FieldSlot}
+use Rattle.kb_classes.specs.Slots.{Declared, has_slot_type, has_slot, slots_among, own_slots_there, own_slots_at, numbered, slots_of}
+use Rattle.kb_classes.specs.Universe.{IsElement, IsUniverse, AreNamedPlatform, exact_class, given_types, is_given, is_concrete}
+use Rattle.kb_classes.specs.World.{World, number_in}
+use Rattle.kb_classes.specs.declared.slots.FieldSlot.{FieldSlot}
 use Rattle.kb_names.specs.Types.{shape_of}
 use Rattle.kb_names.specs.declared.types.ExactType.{ExactType}
 use Rattle.kb_names.specs.declared.types.ExactType.TheVariants as exact
@@ -23,7 +23,7 @@ use Rattle.kb_names.specs.declared.types.JType.{JType}
 use Rattle.kb_names.specs.declared.types.JType.TheVariants as types
 use Rattle.kb_semantics.specs.Inputs.{HasValuesOf}
 use Rattle.kb_semantics.specs.Values.{IsValueOf, AreValuesOf, default_of, slots_of_class}
-use Rattle.kb_world.specs.Faults.{is_left_out}
+use Rattle.kb_resolution.specs.LeftOut.{is_left_out}
 use Rattle.kb_input.specs.Emitted.{unread_object}
 
 -- ---- types that slots have

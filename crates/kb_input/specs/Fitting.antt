@@ -1,7 +1,7 @@
 -- What is known of the types that were asked for: of each the first exact type that fits.
 use Rattle.std.specs.Prelude.{◌≡◌, ◌⊎◌, List, [], ◌∷◌}
 use Rattle.std.specs.List.{AllByRecursion}
-use Rattle.kb_link.specs.World.{World}
+use Rattle.kb_classes.specs.World.{World}
 use Rattle.kb_names.specs.declared.types.JType.{JType}
 use Rattle.kb_input.specs.declared.fitting.Fitting.{Fitting}
 use Rattle.kb_input.specs.Emitted.{first_fitting}

@@ -1,11 +1,12 @@
--- Each alternative is a choice for its slot.
-use Rattle.std.proofs.Common.{◌≡◌, ℕ, zero, suc, ◌+◌, ◌<◌, ◌^◌, ◌⊎◌, inl, inr, Bool, true, false, true≢false, ◌||◌, cond, nat_lt, List, [], ◌∷◌, ◌++◌, map, filter, Some, slice_get, refl, sym, ap, subst, ◌∙◌, arith}
+-- Each alternative is a choice for its slot, or for its location.
+use Rattle.std.proofs.Common.{◌≡◌, ℕ, zero, suc, ◌+◌, ◌<◌, ◌^◌, ◌⊎◌, inl, inr, Bool, true, false, true≢false, ◌||◌, cond, nat_lt, List, [], ◌∷◌, ◌++◌, map, filter, Option, Some, slice_get, refl, sym, ap, subst, ◌∙◌, arith}
 use Rattle.std.specs.List.{list_any, flat_map}
+use Rattle.std.specs.Option.{option_map_or}
 use Rattle.kb_class.proofs.Lists.{has_none, has_cases, has_either}
 use Rattle.kb_class.specs.Naming.{Has}
 use Rattle.kb_class.specs.declared.ids.MethodId.{MethodId}
-use Rattle.kb_link.specs.Subtypes.{fits}
-use Rattle.kb_link.specs.World.{World}
+use Rattle.kb_classes.specs.Subtypes.{fits}
+use Rattle.kb_classes.specs.World.{World}
 use Rattle.kb_names.specs.declared.types.ExactType.{ExactType}
 use Rattle.kb_names.specs.declared.types.ExactType.TheVariants as exact
 use Rattle.kb_names.specs.declared.types.JType.{JType}
@@ -17,14 +18,16 @@ use Rattle.kb_picture.specs.declared.choice.Init.TheVariants.{Lazy, Lazier}
 use Rattle.kb_picture.specs.declared.picture.Length.{Length}
 use Rattle.kb_picture.specs.declared.picture.Length.TheVariants.{Plain, Is, Above}
 use Rattle.kb_picture.specs.declared.picture.Origin.{Origin}
+use Rattle.kb_picture.specs.declared.picture.PicLoc.{PicLoc}
 use Rattle.kb_picture.specs.declared.picture.PicObject.{PicObject}
 use Rattle.kb_picture.specs.declared.picture.Picture.{Picture}
+use Rattle.kb_picture.specs.Accesses.{IsOfObject, IsObjectFor}
 use Rattle.kb_picture.specs.Depths.{depth_at}
 use Rattle.kb_picture.specs.Growing.{IsReceiver, IsChoiceIn, ChoiceFits, IsChoiceFor}
 use Rattle.kb_picture.specs.WellFormed.{IsLengthOf}
 use Rattle.kb_picture.specs.WellTyped.{IsIntLength, SomeFits}
-use Rattle.kb_lazy.specs.Choices.{aliases, aliases_from, new_objects, all_new, has_fitting, beyond_where, fresh_objects, null_unless, location_where, read_choices_of}
-use Rattle.kb_lazy.specs.Laws.{IsFirstRead}
+use Rattle.kb_lazy.specs.Choices.{aliases, aliases_from, new_objects, all_new, has_fitting, beyond_where, fresh_objects, objects_for, null_unless, location_where, read_choices_of, resolve_choices_of}
+use Rattle.kb_lazy.specs.Laws.{IsFirstRead, IsAccess}
 
 -- it holds of each item
 abbrev pub EachOf : {A : Type 0} → (A → Type 0) → List A → Type 0
@@ -57,12 +60,15 @@ below_number (suc m) n h = go (λ (g : Has (numbers_below m) n). below_number m 
     go again (inl g) = let below : n < m = again g in omega (arith, below)
     go again (inr g) = elim (has_cases m n [] g) [ inl same ↦ omega (arith, same) | inr none ↦ absurd (has_none n none) ]
 
--- ---- what is offered
+-- ---- objects
 
-module _ (world : World) (id : MethodId) (picture : Picture) (slot : Origin) (type : JType) where
-  -- the choice speaks of what is there, and fits; null is none for a receiver
+some_fits : (world : World) (type : JType) → has_fitting world type ≡ true → SomeFits world type
+some_fits world type e = any_found (λ kind. fits world kind type) world.universe e
+
+module _ (world : World) (picture : Picture) (slot : Origin) (type : JType) where
+  -- the choice is of an object, speaks of what is there, and fits
   abbrev IsGood : Choice → Type 0
-  IsGood choice = IsChoiceIn picture choice × ChoiceFits world picture type choice × (IsReceiver world id slot → choice ≡ Null → ⊥)
+  IsGood choice = IsChoiceIn picture choice × ChoiceFits world picture type choice × IsOfObject choice
 
   good_aliases : (number : ℕ) (objects : List PicObject) → ((i : ℕ) (object : PicObject) → slice_get objects i ≡ Some object → slice_get picture.objects (number + i) ≡ Some object)
       → EachOf IsGood (aliases_from world type number objects)
@@ -77,11 +83,11 @@ module _ (world : World) (id : MethodId) (picture : Picture) (slot : Origin) (ty
       go : EachOf IsGood (aliases_from world type (suc number) objects) → (b : Bool) → fits world object.kind type ≡ b
           → EachOf IsGood (cond b (Alias number ∷ aliases_from world type (suc number) objects) (aliases_from world type (suc number) objects))
       go later false fit = later
-      go later true fit = each_more IsGood (Alias number) (aliases_from world type (suc number) objects) ((object, here), (object, here, fit), λ r e. absurd cc) later
+      go later true fit = each_more IsGood (Alias number) (aliases_from world type (suc number) objects) ((object, here), (object, here, fit), tt) later
 
   module _ (k array : ℕ) (small : suc array < 2 ^ 31) where
     good_fresh : (kind : ExactType) (len : Length) → Has world.universe kind → fits world kind type ≡ true → IsLengthOf kind len → IsIntLength len → IsGood (Fresh kind len)
-    good_fresh kind len there fit of short = (of, (there, fit, short), λ r e. absurd cc)
+    good_fresh kind len there fit of short = (of, (there, fit, short), tt)
 
     good_of : (kind : ExactType) → Has world.universe kind → fits world kind type ≡ true → EachOf IsGood (new_objects array kind)
     good_of (exact.Class name) there fit = each_more IsGood (Fresh (exact.Class name) Plain) [] (good_fresh (exact.Class name) Plain there fit tt tt) (each_none IsGood)
@@ -107,38 +113,54 @@ module _ (world : World) (id : MethodId) (picture : Picture) (slot : Origin) (ty
         go later true fit =
             each_joined IsGood (new_objects array kind) (flat_map (new_objects array) (filter (λ other. fits world other type) kinds)) (good_of kind (there kind (zero, refl)) fit) later
 
-    some_fits : has_fitting world type ≡ true → SomeFits world type
-    some_fits e = any_found (λ kind. fits world kind type) world.universe e
-
     good_fresh_objects : EachOf IsGood (fresh_objects world picture slot type k array)
     unfolding fresh_objects
     good_fresh_objects = go (nat_lt k (depth_at picture slot))
       where
         beyond : (b : Bool) → has_fitting world type ≡ b → EachOf IsGood (beyond_where b)
         beyond false e = each_none IsGood
-        beyond true e = each_more IsGood Beyond [] (tt, some_fits e, λ r f. absurd cc) (each_none IsGood)
+        beyond true e = each_more IsGood Beyond [] (tt, some_fits world type e, tt) (each_none IsGood)
 
         go : (b : Bool) → EachOf IsGood (cond b (beyond_where (has_fitting world type)) (all_new world type array))
         go true = beyond (has_fitting world type) refl
         go false = good_new world.universe (λ kind h. h)
 
-    module _ (receiver : Bool) (receives : IsReceiver world id slot → receiver ≡ true) where
-      good_null : (b : Bool) → receiver ≡ b → EachOf IsGood (null_unless b)
-      good_null true e = each_none IsGood
-      good_null false e = each_more IsGood Null [] (tt, tt, λ r f. true≢false (sym (receives r) ∙ e)) (each_none IsGood)
+    good_objects : EachOf IsGood (objects_for world picture slot type k array)
+    unfolding aliases
+    good_objects =
+        each_joined IsGood (aliases_from world type 0 picture.objects) (fresh_objects world picture slot type k array)
+        (good_aliases 0 picture.objects (λ i object at. (let same : 0 + i ≡ i = omega arith in ap (slice_get picture.objects) same ∙ at))) good_fresh_objects
 
-      good_location : (b : Bool) → has_fitting world type ≡ b → EachOf IsGood (location_where b)
-      good_location false e = each_none IsGood
-      good_location true e = each_more IsGood Location [] (tt, some_fits e, λ r f. absurd cc) (each_none IsGood)
+-- ---- references that are read
 
-      good_choices : (init : Init) → EachOf IsGood (read_choices_of init world picture slot type receiver k array)
-      unfolding read_choices_of aliases
-      good_choices Lazy =
-          each_joined IsGood (null_unless receiver) (aliases world picture type ++ fresh_objects world picture slot type k array) (good_null receiver refl)
-          (each_joined IsGood (aliases_from world type 0 picture.objects) (fresh_objects world picture slot type k array)
-          (good_aliases 0 picture.objects (λ i object at. (let same : 0 + i ≡ i = omega arith in ap (slice_get picture.objects) same ∙ at))) good_fresh_objects)
-      good_choices Lazier =
-          each_joined IsGood (null_unless receiver) (location_where (has_fitting world type)) (good_null receiver refl) (good_location (has_fitting world type) refl)
+-- an object is not null
+not_null : (choice : Choice) → IsOfObject choice → choice ≡ Null → ⊥
+not_null choice is e = subst IsOfObject e is
+
+module _ (world : World) (id : MethodId) (picture : Picture) (slot : Origin) (type : JType) (k array : ℕ) (small : suc array < 2 ^ 31) (receiver : Bool)
+    (receives : IsReceiver world id slot → receiver ≡ true) where
+  -- the choice speaks of what is there, and fits; null is none for a receiver
+  abbrev IsGoodRead : Choice → Type 0
+  IsGoodRead choice = IsChoiceIn picture choice × ChoiceFits world picture type choice × (IsReceiver world id slot → choice ≡ Null → ⊥)
+
+  good_null : (b : Bool) → receiver ≡ b → EachOf IsGoodRead (null_unless b)
+  good_null true e = each_none IsGoodRead
+  good_null false e = each_more IsGoodRead Null [] (tt, tt, λ r f. true≢false (sym (receives r) ∙ e)) (each_none IsGoodRead)
+
+  good_location : (b : Bool) → has_fitting world type ≡ b → EachOf IsGoodRead (location_where b)
+  good_location false e = each_none IsGoodRead
+  good_location true e = each_more IsGoodRead Location [] (tt, some_fits world type e, λ r f. absurd cc) (each_none IsGoodRead)
+
+  read_objects : EachOf IsGoodRead (objects_for world picture slot type k array)
+  read_objects choice h =
+      let good = good_objects world picture slot type k array small choice h in
+      (good.0, good.1, λ r e. not_null choice good.2 e)
+
+  good_choices : (init : Init) → EachOf IsGoodRead (read_choices_of init world picture slot type receiver k array)
+  unfolding read_choices_of
+  good_choices Lazy = each_joined IsGoodRead (null_unless receiver) (objects_for world picture slot type k array) (good_null receiver refl) read_objects
+  good_choices Lazier =
+      each_joined IsGoodRead (null_unless receiver) (location_where (has_fitting world type)) (good_null receiver refl) (good_location (has_fitting world type) refl)
 
 pub fitting_choice : (init : Init) (world : World) (id : MethodId) (picture : Picture) (slot : Origin) (type : JType) (receiver : Bool) (k array i : ℕ) (choice : Choice)
     → IsFirstRead world id picture slot type receiver → suc array < 2 ^ 31 → slice_get (read_choices_of init world picture slot type receiver k array) i ≡ Some choice
@@ -146,3 +168,15 @@ pub fitting_choice : (init : Init) (world : World) (id : MethodId) (picture : Pi
 fitting_choice init world id picture slot type receiver k array i choice first small at =
     let good = good_choices world id picture slot type k array small receiver first.receives.1 init choice (i, at) in
     record { type = type; declared = first.declared; reference = first.reference; speaks = good.0; of_type = good.1; receiver = good.2 }
+
+-- ---- locations
+
+pub fitting_object : (world : World) (id : MethodId) (picture : Picture) (number : ℕ) (origin : Origin) (type : JType) (k array i : ℕ) (choice : Choice)
+    → IsAccess world id picture number origin type → suc array < 2 ^ 31 → slice_get (resolve_choices_of world picture number type k array) i ≡ Some choice
+    → IsObjectFor world id picture origin choice
+unfolding resolve_choices_of
+fitting_object world id picture number origin type k array i choice access small at =
+    let offered : slice_get (objects_for world picture origin type k array) i ≡ Some choice =
+    ap (λ (o : Option PicLoc). slice_get (option_map_or (λ (loc : PicLoc). objects_for world picture loc.origin type k array) o []) i) (sym access.is_open.open_there) ∙ at in
+    let good = good_objects world picture origin type k array small choice (i, offered) in
+    record { type = type; declared = access.declared; object = good.2; speaks = good.0; of_type = good.1 }

@@ -6,9 +6,9 @@ use Rattle.kb_class.proofs.Lists.{has_none, has_cases, has_either}
 use Rattle.kb_class.specs.Class.{Class}
 use Rattle.kb_class.specs.Naming.{Has}
 use Rattle.kb_link.specs.Links.{IsLinked}
-use Rattle.kb_link.specs.Rules.{HaveDifferentNames, name_of}
-use Rattle.kb_link.specs.Universe.{given_types, exact_class, is_given, is_concrete, AreNamedPlatform, IsUniverse, array_text}
-use Rattle.kb_link.specs.World.{World}
+use Rattle.kb_classes.specs.Rules.{HaveDifferentNames, name_of}
+use Rattle.kb_classes.specs.Universe.{given_types, exact_class, is_given, is_concrete, AreNamedPlatform, IsUniverse, array_text}
+use Rattle.kb_classes.specs.World.{World}
 use Rattle.kb_names.specs.declared.types.ExactType.{ExactType}
 use Rattle.kb_names.specs.declared.types.ExactType.TheVariants as exact
 use Rattle.kb_names.specs.declared.types.JType.{JType}

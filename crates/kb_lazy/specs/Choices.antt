@@ -1,10 +1,12 @@
 -- What a reference that is read for the first time may be (null, an object that was met, a new one: Khurshid, Păsăreanu and
 -- Visser, TACAS 2003; an object that is not known yet, and the bound on the chain of references: Deng, Lee and Robby, ASE
--- 2006). The order of the alternatives, and the bound on the length of arrays, are own rules.
-use Rattle.std.specs.Prelude.{ℕ, suc, Bool, true, false, List, [], ◌∷◌, ◌++◌, map, filter, nat_lt, if◌then◌else◌}
+-- 2006), and which object a location may be that is looked into. The order of the alternatives, and the bound on the length of
+-- arrays, are own rules.
+use Rattle.std.specs.Prelude.{ℕ, suc, Bool, true, false, List, [], ◌∷◌, ◌++◌, map, filter, nat_lt, slice_get, if◌then◌else◌}
 use Rattle.std.specs.List.{list_any, flat_map}
-use Rattle.kb_link.specs.Subtypes.{fits}
-use Rattle.kb_link.specs.World.{World}
+use Rattle.kb_classes.specs.Subtypes.{fits}
+use Rattle.kb_classes.specs.World.{World}
+use Rattle.std.specs.Option.{option_map_or}
 use Rattle.kb_names.specs.declared.types.ExactType.{ExactType}
 use Rattle.kb_names.specs.declared.types.ExactType.TheVariants as exact
 use Rattle.kb_names.specs.declared.types.JType.{JType}
@@ -15,6 +17,7 @@ use Rattle.kb_picture.specs.declared.choice.Init.{Init}
 use Rattle.kb_picture.specs.declared.choice.Init.TheVariants.{Lazy, Lazier}
 use Rattle.kb_picture.specs.declared.picture.Length.TheVariants.{Plain, Is, Above}
 use Rattle.kb_picture.specs.declared.picture.Origin.{Origin}
+use Rattle.kb_picture.specs.declared.picture.PicLoc.{PicLoc}
 use Rattle.kb_picture.specs.declared.picture.PicObject.{PicObject}
 use Rattle.kb_picture.specs.declared.picture.Picture.{Picture}
 use Rattle.kb_picture.specs.Depths.{depth_at}
@@ -62,6 +65,10 @@ unfoldable pub fresh_objects : World → Picture → Origin → JType → ℕ �
 fresh_objects world picture origin type k array =
     if nat_lt k (depth_at picture origin) then beyond_where (has_fitting world type) else all_new world type array
 
+-- the objects that a reference of the type in the slot can be: those that were met, and what is found there for the first time
+abbrev pub objects_for : World → Picture → Origin → JType → ℕ → ℕ → List Choice
+objects_for world picture origin type k array = aliases world picture type ++ fresh_objects world picture origin type k array
+
 -- ---- references that are read
 
 -- null is no alternative for a receiver
@@ -76,6 +83,12 @@ location_where false = []
 
 -- The alternatives for a reference of a declared type that is read for the first time, in their order.
 unfoldable pub read_choices_of : Init → World → Picture → Origin → JType → Bool → ℕ → ℕ → List Choice
-read_choices_of Lazy world picture slot type receiver k array =
-    null_unless receiver ++ (aliases world picture type ++ fresh_objects world picture slot type k array)
+read_choices_of Lazy world picture slot type receiver k array = null_unless receiver ++ objects_for world picture slot type k array
 read_choices_of Lazier world picture slot type receiver k array = null_unless receiver ++ location_where (has_fitting world type)
+
+-- ---- locations that are looked into
+
+-- The alternatives for the location of that number, where the slot from which it was read has the declared type, in their order.
+unfoldable pub resolve_choices_of : World → Picture → ℕ → JType → ℕ → ℕ → List Choice
+resolve_choices_of world picture number type k array =
+    option_map_or (λ (loc : PicLoc). objects_for world picture loc.origin type k array) (slice_get picture.locs number) []

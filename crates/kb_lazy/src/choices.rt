@@ -1,7 +1,7 @@
-//! The alternatives for a reference.
+//! The alternatives for a reference that is read, and for a location that is looked into.
 ghost use Rattle.std.specs.Prelude.{◌≡◌, [], ◌∷◌, ◌++◌, IfOk, OnOk};
 ghost use Rattle.kb_picture.specs.declared.choice.Init.TheVariants as modes;
-ghost use Rattle.kb_lazy.specs.Choices.{aliases, aliases_from, has_fitting, location_where, null_unless, read_choices_of};
+ghost use Rattle.kb_lazy.specs.Choices.{aliases, aliases_from, has_fitting, location_where, null_unless, objects_for, read_choices_of, resolve_choices_of};
 
 use crate::NoMemory;
 use crate::fresh::{has_fitting, push_fresh};
@@ -41,6 +41,43 @@ pub fn read_choices(
     }
 }
 
+/// The alternatives for an open location of the picture, where the slot from which it was read has the declared type `kind`, in
+/// their order: the objects of the picture that are of the type, and new ones, as for a slot that is read under lazy
+/// initialisation. How deep a new object would lie is told by that slot, whatever the code read to come to it. Of a location
+/// that is not there, there are none.
+///
+/// It takes time in proportion to the objects of the picture, the universe and the list that it gives.
+///
+/// Source: Deng, Lee and Robby (ASE 2006).
+#[tactic(auto, unfolding(crate::specs::Choices::resolve_choices_of))]
+pub fn resolve_choices(
+    alloc: Global,
+    world: &World,
+    picture: &Picture,
+    loc: u32,
+    kind: &JType,
+    k: u32,
+    array: u32,
+) -> Result<Vec<Choice>, NoMemory>
+    ensures { IfOk result (λ choices. choices.items ≡ resolve_choices_of world.now picture.now loc kind.now k array) }
+{
+    let Some(location) = picture.locs.as_slice().get(loc as usize) else {
+        return Ok(Vec::new(alloc));
+    };
+    let mut choices = Row::new(alloc);
+    push_objects(
+        alloc,
+        world,
+        picture,
+        location.origin,
+        kind,
+        k,
+        array,
+        &mut choices,
+    )?;
+    Ok(choices.into_vec())
+}
+
 // Null, the objects that were met, and new ones.
 #[tactic(auto, unfolding(crate::specs::Choices::read_choices_of))]
 fn lazy_choices(
@@ -57,8 +94,7 @@ fn lazy_choices(
 {
     let mut choices = Row::new(alloc);
     push_null(receiver, &mut choices)?;
-    push_aliases(world, picture, kind, &mut choices)?;
-    push_fresh(alloc, world, picture, slot, kind, k, array, &mut choices)?;
+    push_objects(alloc, world, picture, slot, kind, k, array, &mut choices)?;
     Ok(choices.into_vec())
 }
 
@@ -91,6 +127,23 @@ fn push_null(receiver: bool, choices: &mut Row<Choice>) -> Result<(), NoMemory>
     }
     choices.push(Choice::Null)?;
     Ok(())
+}
+
+// The objects that a reference in the slot can be: those that were met, and what is found there for the first time.
+fn push_objects(
+    alloc: Global,
+    world: &World,
+    picture: &Picture,
+    origin: Origin,
+    kind: &JType,
+    k: u32,
+    array: u32,
+    choices: &mut Row<Choice>,
+) -> Result<(), NoMemory>
+    ensures { OnOk result (choices.new ≡ choices.old ++ objects_for world.now picture.now origin kind.now k array) }
+{
+    push_aliases(world, picture, kind, choices)?;
+    push_fresh(alloc, world, picture, origin, kind, k, array, choices)
 }
 
 // The objects of the picture that are of the type, by their numbers.

@@ -1,7 +1,7 @@
 //! New objects as alternatives.
 ghost use Rattle.std.specs.Prelude.{◌≡◌, [], ◌∷◌, ◌++◌, filter, OnOk};
 ghost use Rattle.std.specs.List.{flat_map};
-ghost use Rattle.kb_link.specs.Subtypes.{fits};
+ghost use Rattle.kb_classes.specs.Subtypes.{fits};
 ghost use Rattle.kb_names.specs.declared.types.ExactType.TheVariants as exact;
 ghost use Rattle.kb_picture.specs.declared.choice.Choice.TheVariants as chosen;
 ghost use Rattle.kb_lazy.specs.Choices.{all_new, beyond_where, fresh_objects, has_fitting, new_arrays, new_objects};

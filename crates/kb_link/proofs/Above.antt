@@ -7,10 +7,10 @@ use Rattle.std.proofs.lemmas.Option.{same_Some, none-some}
 use Rattle.kb_order.specs.Order.{stands, IsDirectlyAbove, IsComplete, Climbs, IsAbove, HasNoCircle, IsRank}
 use Rattle.kb_order.proofs.RankLaws.{rank_falls}
 use Rattle.kb_class.specs.Class.{Class}
-use Rattle.kb_link.specs.World.{number_in, parent_in}
-use Rattle.kb_link.specs.Subtypes.{parent_names, super_names, with_number, numbers_of, direct_supers, is_super, AreChains, IsChain}
+use Rattle.kb_classes.specs.World.{number_in, parent_in}
+use Rattle.kb_classes.specs.Subtypes.{parent_names, super_names, with_number, numbers_of, direct_supers, is_super, AreChains, IsChain}
 use Rattle.kb_link.specs.ChainWalks.{parent_at, walk, AreWalks}
-use Rattle.kb_link.proofs.Named.{number_inside}
+use Rattle.kb_classes.proofs.Named.{number_inside}
 
 -- ---- numbers of names
 

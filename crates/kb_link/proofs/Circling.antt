@@ -2,12 +2,12 @@
 use Rattle.std.proofs.Common.{◌≡◌, ℕ, zero, suc, ◌<◌, inl, inr, true, List, [], ◌∷◌, length, map, slice_index_or, refl, sym, ap, subst, arith}
 use Rattle.kb_order.specs.Order.{stands, StandsOnCircle}
 use Rattle.kb_class.specs.Class.{Class}
-use Rattle.kb_link.specs.declared.linking.LinkRefusal.{LinkRefusal}
-use Rattle.kb_link.specs.declared.linking.LinkRefusal.TheVariants as refusals
-use Rattle.kb_link.specs.Subtypes.{direct_supers, super_names, numbers_of}
-use Rattle.kb_link.specs.Rules.{HaveDifferentNames, HaveSupers, IsOnCircle}
-use Rattle.kb_link.specs.Links.{RefusesClasses}
-use Rattle.kb_link.specs.Tables.{NamesClass}
+use Rattle.kb_classes.specs.declared.refusal.LinkRefusal.{LinkRefusal}
+use Rattle.kb_classes.specs.declared.refusal.LinkRefusal.TheVariants as refusals
+use Rattle.kb_classes.specs.Subtypes.{direct_supers, super_names, numbers_of}
+use Rattle.kb_classes.specs.Rules.{HaveDifferentNames, HaveSupers, IsOnCircle}
+use Rattle.kb_classes.specs.Refusals.{RefusesClasses}
+use Rattle.kb_link.specs.Stops.{NamesClass}
 
 directly_inside : (direct : List (List ℕ)) (low high : ℕ) → stands high (slice_index_or direct low []) ≡ true → low < length direct
 directly_inside [] low high there = absurd cc

@@ -1,39 +1,12 @@
 -- Walks over the superclass and the interfaces of a class, and over those of all classes.
-use Rattle.std.proofs.Common.{◌≡◌, ℕ, zero, suc, ◌+◌, ◌≤◌, inl, inr, List, [], ◌∷◌, ◌++◌, length, take, drop, Some, slice_get, refl, sym, ap, subst, ◌∙◌, arith}
-use Rattle.std.proofs.lemmas.Option.{same_Some}
+use Rattle.std.proofs.Common.{ℕ, inl, inr, List, [], ◌∷◌, refl, sym, subst}
 use Rattle.kb_class.specs.Class.{Class}
-use Rattle.kb_link.specs.declared.linking.LinkRefusal.{LinkRefusal}
-use Rattle.kb_link.specs.declared.linking.LinkRefusal.TheVariants as refusals
-use Rattle.kb_link.specs.Subtypes.{Claim}
-use Rattle.kb_link.specs.Rules.{IsFirst, IsMissing, IsBad, HaveDifferentNames}
-use Rattle.kb_link.specs.Links.{RefusesClasses}
-use Rattle.kb_link.specs.Tables.{IsRefusalOf, StopsAtMissing, StopsAtBad}
-
--- ---- a list cut at an item
-
-module _ {A : Type 0} where
-  taken_suc : (xs : List A) (place : ℕ) (x : A) → slice_get xs place ≡ Some x → take (suc place) xs ≡ take place xs ++ x ∷ []
-  taken_suc [] place x there = absurd cc
-  taken_suc (y ∷ xs) zero x there = ap (λ (z : A). z ∷ []) (same_Some y x there)
-  taken_suc (y ∷ xs) (suc place) x there = ap (λ (zs : List A). y ∷ zs) (taken_suc xs place x there)
-
-  pub taken_next : (xs : List A) (place : ℕ) (x : A) → slice_get xs place ≡ Some x → take (place + 1) xs ≡ take place xs ++ x ∷ []
-  taken_next xs place x there = (let next : place + 1 ≡ suc place = omega arith in ap (λ (n : ℕ). take n xs) next ∙ taken_suc xs place x there)
-
-  front_and_rest : (xs : List A) (n : ℕ) → xs ≡ take n xs ++ drop n xs
-  front_and_rest [] zero = refl
-  front_and_rest [] (suc n) = refl
-  front_and_rest (y ∷ xs) zero = refl
-  front_and_rest (y ∷ xs) (suc n) = ap (λ (zs : List A). y ∷ zs) (front_and_rest xs n)
-
-  pub cut_at : (xs : List A) (place : ℕ) (x : A) → slice_get xs place ≡ Some x → xs ≡ (take place xs ++ x ∷ []) ++ drop (place + 1) xs
-  cut_at xs place x there = front_and_rest xs (place + 1) ∙ ap (λ (ys : List A). ys ++ drop (place + 1) xs) (taken_next xs place x there)
-
-  pub all_taken : (xs : List A) (n : ℕ) → length xs ≤ n → take n xs ≡ xs
-  all_taken [] zero long = refl
-  all_taken [] (suc n) long = refl
-  all_taken (x ∷ xs) zero long = absurd (omega (arith, long))
-  all_taken (x ∷ xs) (suc n) long = ap (λ (ys : List A). x ∷ ys) (all_taken xs n (omega (arith, long)))
+use Rattle.kb_classes.specs.declared.refusal.LinkRefusal.{LinkRefusal}
+use Rattle.kb_classes.specs.declared.refusal.LinkRefusal.TheVariants as refusals
+use Rattle.kb_classes.specs.Subtypes.{Claim}
+use Rattle.kb_classes.specs.Rules.{IsFirst, IsMissing, IsBad, HaveDifferentNames}
+use Rattle.kb_classes.specs.Refusals.{RefusesClasses, IsRefusalOf}
+use Rattle.kb_link.specs.Stops.{StopsAtMissing, StopsAtBad}
 
 -- ---- where a walk stops
 

@@ -10,11 +10,11 @@ use Rattle.kb_names.specs.declared.types.MethodType.{MethodType}
 use Rattle.kb_names.proofs.ShapeLaws.{arrays_of-shape_of}
 use Rattle.kb_class.specs.Class.{Class}
 pub use Rattle.kb_numbers.proofs.PlaceLaws.{place_there, place_nowhere}
-use Rattle.kb_link.specs.World.{methods_in}
+use Rattle.kb_classes.specs.World.{methods_in}
 use Rattle.kb_link.specs.Members.{base_key, type_key, same_type, same_types, same_result, same_kind, is_method, declared_method}
-use Rattle.kb_link.specs.Rules.{HaveOwnMethods}
+use Rattle.kb_classes.specs.Rules.{HaveOwnMethods}
 use Rattle.kb_link.specs.Tables.{IsNumberOf}
-use Rattle.kb_link.proofs.MethodNumbers.{stands_in, one_id}
+use Rattle.kb_classes.proofs.MethodNumbers.{stands_in, one_id}
 
 -- ---- tests
 

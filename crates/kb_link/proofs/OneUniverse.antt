@@ -10,9 +10,9 @@ use Rattle.kb_class.specs.declared.given.GivenClass.{GivenClass}
 use Rattle.kb_class.specs.Class.{Class}
 use Rattle.kb_class.specs.Naming.{Has}
 use Rattle.kb_link.specs.Links.{Links}
-use Rattle.kb_link.specs.Subtypes.{is_super, AreSupers}
-use Rattle.kb_link.specs.Universe.{given_types, array_text, AreArrays, AreLiterals, AreNamedPlatform, IsUniverse}
-use Rattle.kb_link.specs.World.{World}
+use Rattle.kb_classes.specs.Subtypes.{is_super, AreSupers}
+use Rattle.kb_classes.specs.Universe.{given_types, array_text, AreArrays, AreLiterals, AreNamedPlatform, IsUniverse}
+use Rattle.kb_classes.specs.World.{World}
 use Rattle.kb_link.proofs.OneWorld.{worlds_classes, worlds_chains}
 
 -- ---- lists of marks

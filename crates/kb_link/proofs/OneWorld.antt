@@ -12,14 +12,15 @@ use Rattle.kb_class.specs.declared.members.MethodInfo.{MethodInfo}
 use Rattle.kb_class.specs.Class.{Class}
 use Rattle.kb_class.specs.Platform.{PlatformClass, PlatformMethod, IsPlatform, IsPlatformMethod, platform_table}
 use Rattle.kb_class.proofs.OneClass.{one_class_is}
-use Rattle.kb_link.specs.declared.linking.LinkRefusal.{LinkRefusal}
-use Rattle.kb_link.specs.declared.linking.LinkRefusal.TheVariants as refusals
-use Rattle.kb_link.specs.Links.{most_classes, KeepsFormat, Loads, AreClassesOf, ArePlatform, IsLinked, Links, BreaksFormat, RefusesClasses, RefusesLoaded, RefusesLink}
-use Rattle.kb_link.specs.Rules.{IsFirst, IsNoneSuch, name_of, HaveDifferentNames, IsGivenTwice, all_super_names, IsMissing, HaveSupers, IsFirstClassOnCircle, HaveNoCircle, all_claims, IsBad, HaveGoodSupers, IsFirstBad}
-use Rattle.kb_link.specs.Split.{Placed, placed_from, IsSplit, HaveNoSplit, IsFirstSplit}
-use Rattle.kb_link.specs.Subtypes.{Claim, IsChain, AreChains}
+use Rattle.kb_classes.specs.declared.refusal.LinkRefusal.{LinkRefusal}
+use Rattle.kb_classes.specs.declared.refusal.LinkRefusal.TheVariants as refusals
+use Rattle.kb_link.specs.Links.{most_classes, KeepsFormat, Loads, AreClassesOf, ArePlatform, IsLinked, Links, BreaksFormat, RefusesLoaded, RefusesLink}
+use Rattle.kb_classes.specs.Refusals.{RefusesClasses}
+use Rattle.kb_classes.specs.Rules.{IsFirst, IsNoneSuch, name_of, HaveDifferentNames, IsGivenTwice, all_super_names, IsMissing, HaveSupers, IsFirstClassOnCircle, HaveNoCircle, all_claims, IsBad, HaveGoodSupers, IsFirstBad}
+use Rattle.kb_classes.specs.Split.{Placed, placed_from, IsSplit, HaveNoSplit, IsFirstSplit}
+use Rattle.kb_classes.specs.Subtypes.{Claim, IsChain, AreChains}
 use Rattle.kb_link.specs.Tables.{refusal_of}
-use Rattle.kb_link.specs.World.{World, parent_in}
+use Rattle.kb_classes.specs.World.{World, parent_in}
 
 -- ---- classes
 

@@ -18,10 +18,10 @@ use Rattle.kb_class.specs.Class.{Class}
 use Rattle.kb_class.specs.Naming.{Has}
 use Rattle.kb_class.specs.Loading.{IsFieldOf, AreMethodsOf, IsClassOf}
 use Rattle.kb_class.specs.Platform.{PlatformMethod, PlatformClass, IsPlatformMethod, IsPlatform, platform_table, constructor, constructor_of_text, equals}
-use Rattle.kb_link.specs.Rules.{HaveDifferentFields, HaveOwnMethods}
+use Rattle.kb_classes.specs.Rules.{HaveDifferentFields, HaveOwnMethods}
 use Rattle.kb_link.specs.Links.{AreLoaded, HasFile, KeepsFormat, Loads, AreClassesOf, ArePlatform}
 use Rattle.kb_class.specs.Given.{AreGiven}
-use Rattle.kb_link.proofs.MethodNumbers.{get_either}
+use Rattle.kb_classes.proofs.MethodNumbers.{get_either}
 use Rattle.kb_link.proofs.WholeMethods.{whole_methods, placed_methods}
 
 -- ---- lists without equal items

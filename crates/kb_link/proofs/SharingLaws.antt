@@ -10,12 +10,12 @@ use Rattle.std.proofs.lemmas.Slice.Eq.{bytes_eq-Decides}
 use Rattle.kb_class.specs.Class.{Class}
 use Rattle.kb_class.specs.Naming.{Has}
 use Rattle.kb_class.specs.declared.members.MethodInfo.{MethodInfo}
-use Rattle.kb_link.specs.declared.linking.LinkRefusal.{LinkRefusal}
-use Rattle.kb_link.specs.declared.linking.LinkRefusal.TheVariants as refusals
-use Rattle.kb_link.specs.Subtypes.{AreChains}
-use Rattle.kb_link.specs.Links.{RefusesClasses}
-use Rattle.kb_link.specs.Rules.{IsFirst, IsNoneSuch, HaveDifferentNames, HaveSupers, HaveNoCircle, HaveGoodSupers}
-use Rattle.kb_link.specs.Split.{package_of, Placed, placed_from, IsSplit}
+use Rattle.kb_classes.specs.declared.refusal.LinkRefusal.{LinkRefusal}
+use Rattle.kb_classes.specs.declared.refusal.LinkRefusal.TheVariants as refusals
+use Rattle.kb_classes.specs.Subtypes.{AreChains}
+use Rattle.kb_classes.specs.Refusals.{RefusesClasses}
+use Rattle.kb_classes.specs.Rules.{IsFirst, IsNoneSuch, HaveDifferentNames, HaveSupers, HaveNoCircle, HaveGoodSupers}
+use Rattle.kb_classes.specs.Split.{package_of, Placed, placed_from, IsSplit}
 use Rattle.kb_link.specs.Sharing.{is_elsewhere, stands_elsewhere, elsewhere_above, IsShared, StopsAtShared}
 
 -- ---- the package of a name

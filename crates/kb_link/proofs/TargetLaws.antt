@@ -5,11 +5,11 @@ use Rattle.kb_names.specs.declared.types.Target.{Target}
 use Rattle.kb_class.specs.Class.{Class}
 use Rattle.kb_class.specs.declared.ids.MethodId.{MethodId}
 use Rattle.kb_class.specs.declared.members.MethodInfo.{MethodInfo}
-use Rattle.kb_link.specs.World.{World, number_in, method_at}
-use Rattle.kb_link.specs.Rules.{HaveDifferentNames, HaveOwnMethods, name_of}
+use Rattle.kb_classes.specs.World.{World, number_in, method_at}
+use Rattle.kb_classes.specs.Rules.{HaveDifferentNames, HaveOwnMethods, name_of}
 use Rattle.kb_link.specs.Tables.{IsNumberOf}
 use Rattle.kb_link.specs.Targets.{Declares, IsTargetOf}
-use Rattle.kb_link.proofs.MethodNumbers.{stands_in, one_id, named_at, none_named, number_of_named}
+use Rattle.kb_classes.proofs.MethodNumbers.{stands_in, one_id, named_at, none_named, number_of_named}
 
 module _ (world : World) (names : HaveDifferentNames world.classes) (own : HaveOwnMethods world.classes) (target : Target) where
   -- a method of the class of the target's name is the one that the target names

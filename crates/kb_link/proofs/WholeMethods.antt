@@ -17,8 +17,8 @@ use Rattle.kb_class.specs.Given.{AreGiven, IsGiven, IsListing, AreListings}
 use Rattle.kb_class.specs.Loading.{IsWhole, IsClassOf, IsCodeOf, AreMethodsOf}
 use Rattle.kb_class.specs.Platform.{PlatformClass, PlatformMethod, IsPlatformMethod, platform_table}
 use Rattle.kb_class.proofs.MemberLaws.{given_code_whole}
-use Rattle.kb_link.specs.World.{methods_in}
-use Rattle.kb_link.specs.Rules.{HasWholeCode, HasItsPlaces, HasPlacedCode}
+use Rattle.kb_classes.specs.World.{methods_in}
+use Rattle.kb_classes.specs.Rules.{HasWholeCode, HasItsPlaces, HasPlacedCode}
 use Rattle.kb_link.specs.Links.{Loads, AreClassesOf, ArePlatform}
 
 -- ---- code that has its places

@@ -9,13 +9,14 @@ use Rattle.kb_class.specs.declared.given.GivenClass.{GivenClass}
 use Rattle.kb_class.specs.Class.{Class}
 use Rattle.kb_class.specs.Loading.{IsClassOf}
 use Rattle.kb_class.specs.Platform.{PlatformClass, IsPlatform, platform_table}
-use Rattle.kb_link.specs.declared.linking.LinkRefusal.{LinkRefusal}
-use Rattle.kb_link.specs.declared.linking.LinkRefusal.TheVariants as refusals
-use Rattle.kb_link.specs.World.{World}
-use Rattle.kb_link.specs.Subtypes.{AreChains, AreSupers}
-use Rattle.kb_link.specs.Universe.{IsUniverse, AreLiterals}
-use Rattle.kb_link.specs.Rules.{HaveDifferentNames, HaveDifferentFields, HaveOwnMethods, IsGivenTwice, HaveSupers, IsMissing, all_super_names, IsFirst, HaveNoCircle, IsFirstClassOnCircle, HaveGoodSupers, IsFirstBad}
-use Rattle.kb_link.specs.Split.{HaveNoSplit, IsFirstSplit}
+use Rattle.kb_classes.specs.declared.refusal.LinkRefusal.{LinkRefusal}
+use Rattle.kb_classes.specs.declared.refusal.LinkRefusal.TheVariants as refusals
+use Rattle.kb_classes.specs.World.{World}
+use Rattle.kb_classes.specs.Subtypes.{AreChains, AreSupers}
+use Rattle.kb_classes.specs.Universe.{IsUniverse, AreLiterals}
+use Rattle.kb_classes.specs.Rules.{HaveDifferentNames, HaveDifferentFields, HaveOwnMethods, HaveSupers, HaveNoCircle, HaveGoodSupers}
+use Rattle.kb_classes.specs.Split.{HaveNoSplit}
+use Rattle.kb_classes.specs.Refusals.{RefusesClasses}
 
 -- the most classes that are linked
 abbrev pub most_classes : ℕ
@@ -94,19 +95,6 @@ pub record BreaksFormat (given : List GivenClass) (file : ℕ) (fault : FormatFa
   pub there : slice_get given file ≡ Some class
   pub before : AllByRecursion KeepsFormat (take file given)
   pub first : IsFirstFault class.file fault
-
--- Why classes with numbers are not linked: the first rule that is broken, in this order, unless memory ran out.
-abbrev pub RefusesClasses : List Class → LinkRefusal → Type 0
-RefusesClasses classes (refusals.Twice name) = IsGivenTwice classes name
-RefusesClasses classes (refusals.Missing name) = HaveDifferentNames classes × IsFirst (IsMissing classes) (all_super_names classes) name
-RefusesClasses classes (refusals.Circle name) = HaveDifferentNames classes × HaveSupers classes × IsFirstClassOnCircle classes name
-RefusesClasses classes (refusals.BadSuper name) =
-    HaveDifferentNames classes × HaveSupers classes × HaveNoCircle classes × IsFirstBad classes name
-RefusesClasses classes (refusals.SplitPackage name method) =
-    HaveDifferentNames classes × HaveSupers classes × HaveNoCircle classes × HaveGoodSupers classes
-    × (chains : List (List ℕ)) × AreChains classes chains × IsFirstSplit classes chains name method
-RefusesClasses classes refusals.NoMemory = Unit {0}
-RefusesClasses classes _ = ⊥
 
 -- The classes are loaded, and not linked for this reason.
 abbrev pub RefusesLoaded : List GivenClass → LinkRefusal → Type 0

@@ -9,7 +9,7 @@ use Rattle.kb_class.specs.declared.members.FieldInfo.{FieldInfo}
 use Rattle.kb_class.specs.declared.members.MethodInfo.{MethodInfo}
 use Rattle.kb_class.specs.Class.{Class}
 pub use Rattle.kb_numbers.specs.Places.{place_where}
-use Rattle.kb_link.specs.World.{methods_in}
+use Rattle.kb_classes.specs.World.{methods_in}
 
 -- ---- whether types are the same
 

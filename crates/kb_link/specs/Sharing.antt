@@ -7,10 +7,10 @@ use Rattle.kb_class.specs.Class.{Class}
 use Rattle.kb_class.specs.Naming.{Has}
 use Rattle.kb_numbers.specs.declared.pairs.Pair.{Pair}
 use Rattle.kb_numbers.specs.Members.{MemberNumbers, method_place}
-use Rattle.kb_link.specs.declared.linking.LinkRefusal.{LinkRefusal}
-use Rattle.kb_link.specs.declared.linking.LinkRefusal.TheVariants as refusals
-use Rattle.kb_link.specs.Rules.{IsFirst}
-use Rattle.kb_link.specs.Split.{package_of, is_of_package}
+use Rattle.kb_classes.specs.declared.refusal.LinkRefusal.{LinkRefusal}
+use Rattle.kb_classes.specs.declared.refusal.LinkRefusal.TheVariants as refusals
+use Rattle.kb_classes.specs.Rules.{IsFirst}
+use Rattle.kb_classes.specs.Split.{package_of, is_of_package}
 
 -- whether the class of that number stands in another package than the class of the name
 abbrev pub stands_elsewhere : List ℕ → Option Class → Bool

@@ -4,8 +4,8 @@ use Rattle.kb_names.specs.declared.types.Target.{Target}
 use Rattle.kb_class.specs.declared.ids.MethodId.{MethodId}
 use Rattle.kb_class.specs.declared.members.MethodInfo.{MethodInfo}
 use Rattle.kb_class.specs.Class.{Class}
-use Rattle.kb_link.specs.World.{World, method_at}
-use Rattle.kb_link.specs.Split.{is_special}
+use Rattle.kb_classes.specs.World.{World, method_at}
+use Rattle.kb_classes.specs.Split.{is_special}
 
 -- The method of that number is the one that the target names: by the class that declares it, its name and its type.
 pub record Declares (world : World) (id : MethodId) (target : Target) : Type 0 where

@@ -1,14 +1,13 @@
 //! The chain of superclasses of each class.
 ghost use Rattle.std.specs.Prelude.{◌≡◌, ◌<◌, Some, map, IfOk, IfErr};
-ghost use Rattle.kb_link.specs.World.{parent_in};
-ghost use Rattle.kb_link.specs.Subtypes.{direct_supers, AreChains};
-ghost use Rattle.kb_link.specs.Rules.{HaveNoCircle};
-ghost use Rattle.kb_link.specs.Links.{RefusesClasses};
+ghost use Rattle.kb_classes.specs.World.{parent_in};
+ghost use Rattle.kb_classes.specs.Subtypes.{direct_supers, AreChains};
+ghost use Rattle.kb_classes.specs.Rules.{HaveNoCircle};
+ghost use Rattle.kb_classes.specs.Refusals.{RefusesClasses};
 ghost use Rattle.kb_link.specs.ChainWalks.{parent_at, walk};
 
-use crate::classes::Classes;
-use crate::linking::LinkRefusal;
 use kb_class::LoadedClass;
+use kb_classes::{Classes, LinkRefusal};
 use kb_names::{NoMemory, Row};
 use kb_order::Order;
 use std::alloc::Global;

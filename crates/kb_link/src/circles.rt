@@ -1,13 +1,12 @@
 //! Classes that are among their own superclasses and interfaces.
 ghost use Rattle.std.specs.Prelude.{◌≡◌, ◌<◌, Some, length, IfOk, IfErr};
-ghost use Rattle.kb_link.specs.declared.linking.LinkRefusal.TheVariants as refusals;
-ghost use Rattle.kb_link.specs.Subtypes.{direct_supers};
-ghost use Rattle.kb_link.specs.Rules.{HaveDifferentNames, HaveSupers, HaveNoCircle};
-ghost use Rattle.kb_link.specs.Links.{RefusesClasses};
-ghost use Rattle.kb_link.specs.Tables.{NamesClass};
+ghost use Rattle.kb_classes.specs.declared.refusal.LinkRefusal.TheVariants as refusals;
+ghost use Rattle.kb_classes.specs.Subtypes.{direct_supers};
+ghost use Rattle.kb_classes.specs.Rules.{HaveDifferentNames, HaveSupers, HaveNoCircle};
+ghost use Rattle.kb_classes.specs.Refusals.{RefusesClasses};
+ghost use Rattle.kb_link.specs.Stops.{NamesClass};
 
-use crate::classes::Classes;
-use crate::linking::LinkRefusal;
+use kb_classes::{Classes, LinkRefusal};
 use kb_names::Row;
 use kb_order::{Order, order_of};
 use std::alloc::Global;

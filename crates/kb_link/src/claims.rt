@@ -1,14 +1,13 @@
 //! What a superclass and an interface must be.
 ghost use Rattle.std.specs.Prelude.{◌≡◌, ◌↔◌, ◌∷◌, [], map, IsTrue, OnOk, IfErr};
-ghost use Rattle.kb_link.specs.declared.linking.LinkRefusal.TheVariants as refusals;
-ghost use Rattle.kb_link.specs.Subtypes.{parent_claim, interface_claim, claims_of};
-ghost use Rattle.kb_link.specs.Rules.{HaveDifferentNames, HaveSupers, HaveNoCircle, HaveGoodSupers, IsNoneSuch, IsBad, is_bad_for};
-ghost use Rattle.kb_link.specs.Links.{RefusesClasses};
-ghost use Rattle.kb_link.specs.Tables.{StopsAtBad, IsRefusalOf};
+ghost use Rattle.kb_classes.specs.declared.refusal.LinkRefusal.TheVariants as refusals;
+ghost use Rattle.kb_classes.specs.Subtypes.{parent_claim, interface_claim, claims_of};
+ghost use Rattle.kb_classes.specs.Rules.{HaveDifferentNames, HaveSupers, HaveNoCircle, HaveGoodSupers, IsNoneSuch, IsBad, is_bad_for};
+ghost use Rattle.kb_classes.specs.Refusals.{RefusesClasses, IsRefusalOf};
+ghost use Rattle.kb_link.specs.Stops.{StopsAtBad};
 
-use crate::classes::{Classes, interface_at};
-use crate::linking::LinkRefusal;
 use kb_class::LoadedClass;
+use kb_classes::{ClaimKind, Classes, LinkRefusal, interface_at};
 use kb_names::Name;
 use std::alloc::Global;
 
@@ -16,15 +15,6 @@ use std::alloc::Global;
 const INTERFACE: u16 = 0x0200;
 
 const FINAL_OR_INTERFACE: u16 = 0x0210;
-
-/// As what a class is named by another one.
-#[derive(Clone, Copy)]
-pub(crate) enum ClaimKind {
-    /// As its superclass.
-    Parent,
-    /// Among its interfaces.
-    Interface,
-}
 
 /// Refuses the first superclass that is final or an interface, or interface that is none.
 pub(crate) fn check_claims(alloc: Global, classes: &Classes) -> Result<(), LinkRefusal>

@@ -1,14 +1,13 @@
 //! The superclass and the interfaces of each class, by their numbers.
 ghost use Rattle.std.specs.Prelude.{◌≡◌, ◌∷◌, [], ◌++◌, IfOk, IfErr};
-ghost use Rattle.kb_link.specs.declared.linking.LinkRefusal.TheVariants as refusals;
-ghost use Rattle.kb_link.specs.Subtypes.{parent_names, super_names, numbers_of, direct_supers};
-ghost use Rattle.kb_link.specs.Rules.{IsNoneSuch, IsMissing, HaveDifferentNames, HaveSupers};
-ghost use Rattle.kb_link.specs.Links.{RefusesClasses};
-ghost use Rattle.kb_link.specs.Tables.{StopsAtMissing, IsRefusalOf};
+ghost use Rattle.kb_classes.specs.declared.refusal.LinkRefusal.TheVariants as refusals;
+ghost use Rattle.kb_classes.specs.Subtypes.{parent_names, super_names, numbers_of, direct_supers};
+ghost use Rattle.kb_classes.specs.Rules.{IsNoneSuch, IsMissing, HaveDifferentNames, HaveSupers};
+ghost use Rattle.kb_classes.specs.Refusals.{RefusesClasses, IsRefusalOf};
+ghost use Rattle.kb_link.specs.Stops.{StopsAtMissing};
 
-use crate::classes::{Classes, interface_at};
-use crate::linking::LinkRefusal;
 use kb_class::LoadedClass;
+use kb_classes::{Classes, LinkRefusal, interface_at};
 use kb_names::{Name, Row};
 use std::alloc::Global;
 

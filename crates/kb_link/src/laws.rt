@@ -3,9 +3,9 @@
 ghost use Rattle.std.specs.Prelude.{◌≡◌, List};
 ghost use Rattle.kb_class.specs.declared.given.GivenClass.{GivenClass};
 ghost use Rattle.kb_link.specs.Links.{Links, RefusesLink};
-ghost use Rattle.kb_link.specs.World.{World};
-ghost use Rattle.kb_link.specs.declared.linking.LinkRefusal.{LinkRefusal};
-ghost use Rattle.kb_link.specs.declared.linking.LinkRefusal.TheVariants as refusals;
+ghost use Rattle.kb_classes.specs.World.{World};
+ghost use Rattle.kb_classes.specs.declared.refusal.LinkRefusal.{LinkRefusal};
+ghost use Rattle.kb_classes.specs.declared.refusal.LinkRefusal.TheVariants as refusals;
 
 /// Class files have one world.
 pub fn one_world()

@@ -3,28 +3,26 @@ ghost use Rattle.std.specs.Prelude.{◌≡◌, ◌<◌, ℕ, length, map, Some, 
 ghost use Rattle.std.specs.Option.{option_copied, option_and_then};
 ghost use Rattle.kb_class.specs.Class.{Class};
 ghost use Rattle.kb_numbers.specs.Numbers.{AreNumbered};
-ghost use Rattle.kb_link.specs.World.{chain_of, method_at, methods_in, number_in, type_entry_of, int_entry_of, literal_entry_of};
-ghost use Rattle.kb_link.specs.Subtypes.{direct_supers, AreChains, AreSupers, is_below, is_super};
-ghost use Rattle.kb_link.specs.Slots.{slots_of, slots_along};
-ghost use Rattle.kb_link.specs.Rules.{HaveDifferentNames, HaveOwnMethods, HaveSupers, HaveNoCircle, HaveGoodSupers};
-ghost use Rattle.kb_link.specs.Split.{HaveNoSplit, is_special};
-ghost use Rattle.kb_link.specs.Links.{AreLoaded, IsLinked, RefusesClasses};
-ghost use Rattle.kb_link.specs.Tables.{HasPlaces, IsNumberOf};
-ghost use Rattle.kb_link.specs.Initialisers.{has_initialiser, is_initialised};
-ghost use Rattle.kb_link.specs.Placing.{ArePlacings, place_in};
-ghost use Rattle.kb_link.specs.Universe.{IsUniverse, AreLiterals};
+ghost use Rattle.kb_classes.specs.World.{chain_of, method_at, methods_in, number_in, type_entry_of, int_entry_of, literal_entry_of};
+ghost use Rattle.kb_classes.specs.Subtypes.{direct_supers, AreChains, AreSupers, is_below, is_super};
+ghost use Rattle.kb_classes.specs.Slots.{slots_of, slots_along};
+ghost use Rattle.kb_classes.specs.Rules.{HaveDifferentNames, HaveOwnMethods, HaveSupers, HaveNoCircle, HaveGoodSupers};
+ghost use Rattle.kb_classes.specs.Split.{HaveNoSplit};
+ghost use Rattle.kb_link.specs.Links.{AreLoaded, IsLinked};
+ghost use Rattle.kb_classes.specs.Refusals.{RefusesClasses};
+ghost use Rattle.kb_classes.specs.Methods.{HasPlaces};
+ghost use Rattle.kb_link.specs.Tables.{IsNumberOf};
+ghost use Rattle.kb_classes.specs.Initialisers.{has_initialiser, is_initialised};
+ghost use Rattle.kb_classes.specs.Placing.{ArePlacings, place_in};
+ghost use Rattle.kb_classes.specs.Universe.{IsUniverse, AreLiterals};
 ghost use Rattle.kb_link.specs.Targets.{Declares, IsTargetOf};
 
-use crate::classes::Classes;
-use crate::initialisers::initialised_of;
-use crate::linking::LinkRefusal;
-use crate::literals::{literals_of, place_in};
-use crate::methods::{MethodPlace, places_of};
-use crate::placing::{placed_at, placings_of};
-use crate::slots::{FieldSlot, slots_of};
 use crate::supers::{is_super, supers_of};
-use crate::universe::{shared_name, universe_of};
 use kb_class::{ClassId, LoadedClass, MethodId, MethodInfo};
+use kb_classes::{
+    Classes, FieldSlot, LinkRefusal, MethodPlace, initialised_of, is_special, literals_of,
+    place_in, placed_at, places_of, placings_of, shared_name, slots_of, universe_of,
+};
 use kb_classfile::ClassFile;
 use kb_names::{ExactType, Name, NoMemory, Row, Target};
 use kb_numbers::Numbers;
@@ -54,16 +52,16 @@ pub struct Linked {
 
 impl Model for Linked {
     ghost use Rattle.std.specs.Prelude.{◌≡◌, map};
-    ghost use Rattle.kb_link.specs.World.{World as PlainWorld};
+    ghost use Rattle.kb_classes.specs.World.{World as PlainWorld};
 
     ghost Value = { PlainWorld };
 
     ghost use Rattle.kb_link.specs.Links.{IsLinked};
-    ghost use Rattle.kb_link.specs.Slots.{slots_along};
-    ghost use Rattle.kb_link.specs.Initialisers.{has_initialiser};
-    ghost use Rattle.kb_link.specs.Tables.{HasPlaces};
-    ghost use Rattle.kb_link.specs.World.{methods_in};
-    ghost use Rattle.kb_link.specs.Placing.{ArePlacings};
+    ghost use Rattle.kb_classes.specs.Slots.{slots_along};
+    ghost use Rattle.kb_classes.specs.Initialisers.{has_initialiser};
+    ghost use Rattle.kb_classes.specs.Methods.{HasPlaces};
+    ghost use Rattle.kb_classes.specs.World.{methods_in};
+    ghost use Rattle.kb_classes.specs.Placing.{ArePlacings};
     ghost use Rattle.kb_numbers.specs.Numbers.{AreNumbered};
 
     ghost view = { λ w. record { classes = w.classes; chains = w.chains.items; supers = w.supers.items; universe = w.universe; literals = w.literals } };
@@ -400,15 +398,5 @@ impl Linked {
     {
         let class = self.classes.as_slice().get(class.0 as usize)?;
         place_in(&self.literals, class.text_entry(entry)?)
-    }
-}
-
-// Whether it is the name of an initialiser or the like.
-pub(crate) fn is_special(name: &[u8]) -> bool
-    ensures { result ≡ is_special name.now }
-{
-    match name {
-        [first, ..] => *first == b'<',
-        [] => false,
     }
 }

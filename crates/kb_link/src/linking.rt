@@ -3,21 +3,22 @@ ghost use Rattle.std.specs.Prelude.{◌≡◌, ◌≤◌, length, IfOk, IfErr};
 ghost use Rattle.std.specs.List.{AllByRecursion};
 ghost use Rattle.kb_class.specs.Given.{AreGiven};
 ghost use Rattle.kb_numbers.specs.Numbers.{AreNumbered, HasTexts};
-ghost use Rattle.kb_link.specs.Rules.{HaveDifferentNames, HaveSupers, HaveNoCircle, HaveGoodSupers};
-ghost use Rattle.kb_link.specs.Subtypes.{direct_supers, AreChains};
-ghost use Rattle.kb_link.specs.Split.{HaveNoSplit};
-ghost use Rattle.kb_link.specs.Links.{AreLoaded, KeepsFormat, Links, IsLinked, RefusesClasses, RefusesLink, most_classes};
+ghost use Rattle.kb_classes.specs.Rules.{HaveDifferentNames, HaveSupers, HaveNoCircle, HaveGoodSupers};
+ghost use Rattle.kb_classes.specs.Subtypes.{direct_supers, AreChains};
+ghost use Rattle.kb_classes.specs.Split.{HaveNoSplit};
+ghost use Rattle.kb_link.specs.Links.{AreLoaded, KeepsFormat, Links, IsLinked, RefusesLink, most_classes};
+ghost use Rattle.kb_classes.specs.Refusals.{RefusesClasses};
 
 use crate::chains::chains_of;
 use crate::circles::check_circles;
 use crate::claims::check_claims;
-use crate::classes::Classes;
 use crate::direct::direct_supers;
 use crate::linked::{Linked, linked_of};
 use crate::loading::{check_formats, load_all};
 use crate::packages::check_packages;
 use kb_class::{GivenClass, LoadedClass};
-use kb_names::{Name, NoMemory, Row, Target};
+use kb_classes::{Classes, LinkRefusal};
+use kb_names::{NoMemory, Row};
 use kb_numbers::{Numbers, numbers_of};
 use kb_order::Order;
 use kb_rows::Held;
@@ -25,53 +26,6 @@ use std::alloc::Global;
 
 /// The most classes that are linked.
 const MOST_CLASSES: usize = 64;
-
-/// Why classes are not linked, or a method is not reached.
-#[derive(Drop)]
-pub enum LinkRefusal {
-    /// More than 64 classes are given.
-    TooMany,
-    /// A name that may not be one: the number of the file, and of the name's entry.
-    BadName(u32, u16),
-    /// A descriptor that is none: the number of the file, and of the descriptor's entry.
-    BadDescriptor(u32, u16),
-    /// A second field or method of one name and descriptor: the number of the file, and of the name's entry.
-    TwoMembers(u32, u16),
-    /// Two classes have the name, or one has that of a platform class.
-    Twice(Name),
-    /// No class has the name of a superclass or interface.
-    Missing(Name),
-    /// The class is one of its own superclasses and interfaces.
-    Circle(Name),
-    /// A superclass that is final or an interface, or an interface that is none.
-    BadSuper(Name),
-    /// A class, and a method of it that a superclass in another package declares too, both inside their package.
-    SplitPackage(Name, Name),
-    /// The target names no method that may be run.
-    NoMethod(Target),
-    /// The method, and the offset of its getfield or putfield that names a field that is not there.
-    NoField(Target, u32),
-    /// The method, and the offset of an instruction in it that cannot be carried out, with the cause.
-    Outside(Target, u32, What),
-    /// The class, which code initialises, of a method that is called or of an object that is made.
-    Initialiser(Name),
-    NoMemory,
-}
-
-/// What of an instruction cannot be carried out.
-#[derive(Clone, Copy, PartialEq, Eq)]
-pub enum What {
-    /// An opcode that is not built.
-    Opcode(u8),
-    /// A constant that is neither an int nor a string.
-    Constant,
-    /// An entry of the constant pool of another kind than the instruction takes.
-    Operand,
-    /// A type of which nothing can be made or held.
-    Kind,
-    /// A method that cannot be called.
-    Method,
-}
 
 /// The world of these classes, in the order given, and of the platform classes.
 ///

@@ -7,8 +7,8 @@ ghost use Rattle.kb_class.specs.Platform.{platform_table};
 ghost use Rattle.kb_link.specs.Links.{KeepsFormat, Loads, ArePlatform, RefusesLink, most_classes};
 ghost use Rattle.kb_link.specs.Tables.{refusal_of};
 
-use crate::linking::LinkRefusal;
 use kb_class::{ClassId, GivenClass, LoadedClass, PLATFORM_CLASSES};
+use kb_classes::LinkRefusal;
 use kb_format::{FormatFault, format_fault};
 use kb_names::NoMemory;
 use std::alloc::Global;

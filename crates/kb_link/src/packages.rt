@@ -2,18 +2,15 @@
 ghost use Rattle.std.specs.Prelude.{◌≡◌, ◌↔◌, ◌⊎◌, filter, IsTrue, IfOk, OnOk, IfErr, IfSome, IfNone};
 ghost use Rattle.std.specs.List.{AllZip, list_any};
 ghost use Rattle.kb_numbers.specs.Numbers.{AreNumbered, IsMethodPair};
-ghost use Rattle.kb_link.specs.Subtypes.{AreChains};
-ghost use Rattle.kb_link.specs.Rules.{IsFirst, IsNoneSuch, HaveOwnMethods, HaveSupers, HaveNoCircle, HaveGoodSupers};
-ghost use Rattle.kb_link.specs.Split.{package_of, is_of_package, HaveNoSplit};
+ghost use Rattle.kb_classes.specs.Subtypes.{AreChains};
+ghost use Rattle.kb_classes.specs.Rules.{IsFirst, IsNoneSuch, HaveOwnMethods, HaveSupers, HaveNoCircle, HaveGoodSupers};
+ghost use Rattle.kb_classes.specs.Split.{package_of, is_of_package, HaveNoSplit};
 ghost use Rattle.kb_link.specs.Sharing.{is_elsewhere, elsewhere_above, shares_at, shares_in, IsShared, StopsAtShared};
-ghost use Rattle.kb_link.specs.declared.linking.LinkRefusal.TheVariants as refusals;
-ghost use Rattle.kb_link.specs.Links.{RefusesClasses};
+ghost use Rattle.kb_classes.specs.declared.refusal.LinkRefusal.TheVariants as refusals;
+ghost use Rattle.kb_classes.specs.Refusals.{RefusesClasses};
 
-use crate::classes::Classes;
-use crate::items::item_at;
-use crate::linked::is_special;
-use crate::linking::LinkRefusal;
 use kb_class::{LoadedClass, MethodInfo};
+use kb_classes::{Classes, LinkRefusal, is_special, item_at};
 use kb_names::{Name, NoMemory, Row};
 use kb_numbers::{Numbers, Pair};
 use std::alloc::Global;

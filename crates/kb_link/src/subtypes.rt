@@ -2,7 +2,7 @@
 ghost use Rattle.std.specs.Prelude.{◌≡◌, ◌⊎◌};
 ghost use Rattle.kb_names.specs.Types.{shape_of};
 ghost use Rattle.kb_names.specs.declared.types.ExactType.TheVariants as exact;
-ghost use Rattle.kb_link.specs.Subtypes.{is_above_arrays, type_fits, fits, type_of_exact};
+ghost use Rattle.kb_classes.specs.Subtypes.{is_above_arrays, type_fits, fits, type_of_exact};
 
 use crate::linked::Linked;
 use kb_names::{ExactType, JType, Name};

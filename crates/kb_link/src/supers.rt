@@ -1,9 +1,9 @@
 //! Which classes and interfaces each class is a subtype of.
 ghost use Rattle.std.specs.Prelude.{◌≡◌, ◌↔◌, ◌<◌, ℕ, true, false, length, slice_index_or, IfOk};
 ghost use Rattle.kb_order.specs.Order.{IsAbove, IsComplete};
-ghost use Rattle.kb_link.specs.Subtypes.{direct_supers, is_super, AreSupers};
+ghost use Rattle.kb_classes.specs.Subtypes.{direct_supers, is_super, AreSupers};
 
-use crate::classes::Classes;
+use kb_classes::Classes;
 use kb_names::{NoMemory, Row};
 use kb_order::Order;
 use std::alloc::Global;

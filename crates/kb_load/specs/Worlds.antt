@@ -6,7 +6,7 @@ use Rattle.kb_table.specs.Files.{AreWhole}
 use Rattle.kb_class.specs.declared.given.GivenClass.{GivenClass}
 use Rattle.kb_class.specs.Given.{IsGivenBy, AreGivenBy}
 use Rattle.kb_link.specs.Links.{Links}
-use Rattle.kb_link.specs.World.{World}
+use Rattle.kb_classes.specs.World.{World}
 
 -- the class that the bytes spell is behind the others
 abbrev pub AddsClass : List ℕ → List GivenClass → List GivenClass → Type 0

@@ -3,14 +3,14 @@ use Rattle.std.proofs.Common.{◌≡◌, ◌≢◌, ℕ, ◌<◌, ◌^◌, List,
 use Rattle.std.specs.Prelude.{codes}
 use Rattle.std.specs.List.{flat_map, AllByRecursion}
 use Rattle.std.specs.Fmt.{decimal}
-use Rattle.std.proofs.lemmas.Fmt.{decimal_injective}
 use Rattle.kb_chain.specs.declared.log.Chain.{Chain}
 use Rattle.kb_chain.specs.declared.log.Log.{Log}
-use Rattle.kb_grammar.specs.Lines.{Lacks, AreLines, lines_text}
+use Rattle.kb_grammar.specs.Lines.{Lacks, IsTail, AreLines, lines_text}
 use Rattle.kb_grammar.specs.LineFormats.{SpellsByLines}
-use Rattle.kb_grammar.proofs.WordLaws.{Lacks-++, same_cut, same_behind, not_lacking}
-use Rattle.kb_grammar.proofs.NumberLaws.{Lacks-decimal}
+use Rattle.kb_grammar.proofs.WordLaws.{Lacks-++}
+use Rattle.kb_grammar.proofs.NumberLaws.{Lacks-decimal, same_numbered}
 use Rattle.kb_grammar.proofs.LineLaws.{lines_beyond, no_lines}
+use Rattle.kb_grammar.proofs.ListLaws.{AreApart, is_tail, same_items}
 use Rattle.kb_log_text.specs.Lines.{step_text, learn_line, IsStep, IsChain, SpellsLog}
 
 -- ---- texts of lines
@@ -27,38 +27,33 @@ same_lines xs ys p q e =
 digits_lack : (byte number : ℕ) → byte < 48 → number < 2 ^ 32 → Lacks byte (decimal number)
 digits_lack byte number low small = Lacks-decimal byte number low (omega (arith, small))
 
-same_digits : (m n : ℕ) → m < 2 ^ 32 → n < 2 ^ 32 → decimal m ≡ decimal n → m ≡ n
-same_digits m n p q e = decimal_injective m n (omega (arith, p)) (omega (arith, q)) e
-
 -- the text of a step before more text
-step_before : (step : ℕ × ℕ) (more : List ℕ) → step_text step ++ more ≡ 32 ∷ (decimal step.0 ++ 32 ∷ (decimal step.1 ++ more))
+pub step_before : (step : ℕ × ℕ) (more : List ℕ) → step_text step ++ more ≡ 32 ∷ (decimal step.0 ++ 32 ∷ (decimal step.1 ++ more))
 unfolding step_text
 step_before step more = ap (λ (text : List ℕ). 32 ∷ text) (append_assoc (decimal step.0) (32 ∷ decimal step.1) more)
 
--- a number before the text of steps
-same_numbers : (m n : ℕ) (xs ys : List (ℕ × ℕ)) → m < 2 ^ 32 → n < 2 ^ 32 → AllByRecursion IsStep xs → AllByRecursion IsStep ys
-    → decimal m ++ flat_map step_text xs ≡ decimal n ++ flat_map step_text ys → (m ≡ n) × (xs ≡ ys)
-same_numbers m n [] [] p q h k e = (same_digits m n p q (sym (append-nil (decimal m)) ∙ e ∙ append-nil (decimal n)), refl)
-same_numbers m n [] (y ∷ ys) p q h k e =
-    absurd (not_lacking 32 (decimal n) _ (decimal m) (digits_lack 32 m (omega arith) p)
-    (ap (λ (text : List ℕ). decimal n ++ text) (sym (step_before y (flat_map step_text ys))) ∙ sym e ∙ append-nil (decimal m)))
-same_numbers m n (x ∷ xs) [] p q h k e =
-    absurd (not_lacking 32 (decimal m) _ (decimal n) (digits_lack 32 n (omega arith) q)
-    (ap (λ (text : List ℕ). decimal m ++ text) (sym (step_before x (flat_map step_text xs))) ∙ e ∙ append-nil (decimal n)))
-same_numbers m n (x ∷ xs) (y ∷ ys) p q h k e =
-    let there = ap (λ (text : List ℕ). decimal m ++ text) (sym (step_before x (flat_map step_text xs))) ∙ e ∙ ap (λ (text : List ℕ). decimal n ++ text) (step_before y (flat_map step_text ys)) in
-    let first = same_cut 32 (decimal m) (decimal n) _ _ (digits_lack 32 m (omega arith) p) (digits_lack 32 n (omega arith) q) there in
-    let pivots = same_cut 32 (decimal x.0) (decimal y.0) _ _ (digits_lack 32 x.0 (omega arith) h.0.0) (digits_lack 32 y.0 (omega arith) k.0.0) first.1 in
-    let others = same_numbers x.1 y.1 xs ys h.0.1 k.0.1 h.1 k.1 pivots.1 in
-    let pivot : x.0 ≡ y.0 = same_digits x.0 y.0 h.0.0 k.0.0 pivots.0 in
-    (same_digits m n p q first.0, λ i. (pivot i, others.0 i) ∷ others.1 i)
+-- the steps of a chain are told apart
+pub steps_apart : AreApart 32 IsStep step_text
+unfolding step_text
+steps_apart = record { begins = begins; same = same }
+  where
+    begins : (step : ℕ × ℕ) → (others : List ℕ) × (step_text step ≡ 32 ∷ others)
+    begins step = (decimal step.0 ++ 32 ∷ decimal step.1, refl)
+
+    same : (x y : ℕ × ℕ) (us vs : List ℕ) → IsStep x → IsStep y → IsTail 32 us → IsTail 32 vs → step_text x ++ us ≡ step_text y ++ vs → (x ≡ y) × (us ≡ vs)
+    same x y us vs p q h k e =
+        let pivots = same_numbered 32 (32 ∷ []) x.0 y.0 (32 ∷ (decimal x.1 ++ us)) (32 ∷ (decimal y.1 ++ vs)) (omega arith) p.0 q.0 refl refl (sym (step_before x us) ∙ e ∙ step_before y vs) in
+        let clauses = same_numbered 32 (32 ∷ []) x.1 y.1 us vs (omega arith) p.1 q.1 h k pivots.1 in
+        ((λ i. (pivots.0 i, clauses.0 i)), clauses.1)
 
 -- a line is that of one chain
 pub same_chain : (one other : Chain) → IsChain one → IsChain other → learn_line one ≡ learn_line other → one ≡ other
 unfolding learn_line
 same_chain one other p q e =
-    let parts = same_numbers one.start other.start one.steps other.steps p.start q.start p.steps q.steps (same_behind (codes "learn ") _ _ e) in
-    λ i. record { start = parts.0 i; steps = parts.1 i }
+    let tails = is_tail 32 IsStep step_text steps_apart in
+    let starts = same_numbered 32 (codes "learn ") one.start other.start (flat_map step_text one.steps) (flat_map step_text other.steps) (omega arith) p.start q.start (tails one.steps) (tails other.steps) e in
+    let steps = same_items 32 IsStep step_text steps_apart one.steps other.steps p.steps q.steps starts.1 in
+    λ i. record { start = starts.0 i; steps = steps i }
 
 -- the lines of chains are those of no others
 pub same_chains : (ones others : List Chain) → AllByRecursion IsChain ones → AllByRecursion IsChain others → map learn_line ones ≡ map learn_line others → ones ≡ others

@@ -25,6 +25,10 @@ pub record IsChain (chain : Chain) : Type 0 where
   pub start : chain.start < 2 ^ 32
   pub steps : AllByRecursion IsStep chain.steps
 
+-- the text spells the steps
+abbrev pub SpellsSteps : List (ℕ × ℕ) → List ℕ → Type 0
+SpellsSteps steps text = AllByRecursion IsStep steps × (text ≡ flat_map step_text steps)
+
 -- the line spells the chain
 abbrev pub SpellsChain : Chain → List ℕ → Type 0
 SpellsChain chain line = IsChain chain × (line ≡ learn_line chain)

@@ -2,7 +2,7 @@
 use Rattle.std.proofs.Common.{◌≡◌, ℕ, suc, Bool, true, false, List, [], ◌∷◌, Option, Some, None, nat_eq, refl, ◌∙◌}
 use Rattle.std.specs.Option.{option_map}
 use Rattle.kb_code.specs.declared.instruction.Instr.{Instr}
-use Rattle.kb_link.specs.Placing.{place_of_offset}
+use Rattle.kb_classes.specs.Placing.{place_of_offset}
 use Rattle.kb_semantics.specs.Config.{instruction_in}
 use Rattle.kb_lookups.specs.Listings.{from_place}
 

@@ -5,7 +5,7 @@ use Rattle.kb_heap.specs.declared.heap.Object.{Object}
 use Rattle.kb_heap.specs.declared.heap.Value.{Value}
 use Rattle.kb_heap.specs.Heap.{object_at}
 use Rattle.kb_world.specs.Calls.{is_without_file}
-use Rattle.kb_world.specs.Lookup.{resolved_method, selected_special}
+use Rattle.kb_resolution.specs.Lookup.{resolved_method, selected_special}
 use Rattle.kb_semantics.specs.Config.{Setting, Config, Outcome, info_of}
 use Rattle.kb_semantics.specs.Operands.{Reference, receiver_of}
 use Rattle.kb_semantics.specs.Instructions.{Callee, CallKind, BySelection, Special, Static, callee_at, here, invoke, invokes, invokes_method, invokes_on, on_object, operands_of, platform_result, selected_at, with}

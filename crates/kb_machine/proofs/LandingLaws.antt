@@ -9,7 +9,7 @@ use Rattle.kb_semantics.specs.Config.{Setting, Config, Frame, Outcome, Ends}
 use Rattle.kb_heap.specs.declared.heap.Object.{Object}
 use Rattle.kb_heap.specs.Heap.{with_object}
 use Rattle.kb_class.specs.Platform.{throwable}
-use Rattle.kb_link.specs.Subtypes.{fits}
+use Rattle.kb_classes.specs.Subtypes.{fits}
 use Rattle.kb_names.specs.declared.types.JType.TheVariants as types
 use Rattle.kb_semantics.specs.Instructions.{with}
 use Rattle.kb_semantics.specs.Values.{new_object}

@@ -3,7 +3,7 @@ use Rattle.std.specs.Prelude.{ℕ, ◌+◌}
 use Rattle.kb_heap.specs.declared.ending.Ending.TheVariants as endings
 use Rattle.kb_heap.specs.declared.ending.Ending.{Ending}
 use Rattle.kb_heap.specs.declared.bounds.Bound.TheVariants.{Steps}
-use Rattle.kb_link.specs.World.{World}
+use Rattle.kb_classes.specs.World.{World}
 use Rattle.kb_heap.specs.declared.heap.Heap.{Heap}
 use Rattle.kb_semantics.specs.Config.{Setting, Config, Outcome, Goes, Ends, place_in_code}
 use Rattle.kb_machine.specs.declared.state.State.{State}

@@ -6,7 +6,7 @@ ghost use Rattle.kb_heap.specs.declared.heap.Object.{Object as PlainObject};
 ghost use Rattle.kb_semantics.specs.Instructions.{invoke, invokes, invokes_on, on_object, selected_at};
 ghost use Rattle.kb_semantics.specs.Operands.{receiver_of};
 ghost use Rattle.kb_semantics.specs.Ways.{enters};
-ghost use Rattle.kb_world.specs.Lookup.{selected_special};
+ghost use Rattle.kb_resolution.specs.Lookup.{selected_special};
 ghost use Rattle.kb_lookups.specs.Callees.{plain_callee};
 ghost use Rattle.kb_stack.specs.Taken.{kind_of};
 ghost use Rattle.kb_machine.specs.Turns.{config_of, setting_of, told};

@@ -6,7 +6,7 @@ ghost use Rattle.kb_class.specs.Platform.{throwable};
 ghost use Rattle.kb_heap.specs.declared.heap.Object.{Object as PlainObject};
 ghost use Rattle.kb_heap.specs.declared.heap.Value.TheVariants.{Ref};
 ghost use Rattle.kb_heap.specs.Heap.{object_at, with_object};
-ghost use Rattle.kb_link.specs.Subtypes.{fits};
+ghost use Rattle.kb_classes.specs.Subtypes.{fits};
 ghost use Rattle.kb_semantics.specs.Instructions.{throw, with};
 ghost use Rattle.kb_semantics.specs.Values.{new_object};
 ghost use Rattle.kb_semantics.specs.Ways.{ill_typed, throws, throws_object};

@@ -3,7 +3,7 @@
 ghost use Rattle.std.specs.Prelude.{◌≡◌, IfOk};
 ghost use Rattle.kb_semantics.specs.Instructions.{cast, component_of_entry, instance_of, make_array};
 ghost use Rattle.kb_semantics.specs.Config.{class_number};
-ghost use Rattle.kb_world.specs.Faults.{component_of_code};
+ghost use Rattle.kb_universe.specs.Faults.{component_of_code};
 ghost use Rattle.kb_machine.specs.Turns.{setting_of, config_of, told};
 
 use crate::NoMemory;

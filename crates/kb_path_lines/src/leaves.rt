@@ -1,7 +1,7 @@
 //! The lines of a path's leaf.
 
 use crate::inputs::{add_to_input, no_input};
-use crate::logs::read_chain;
+use crate::logs::read_learnt;
 use crate::texts::{push, split};
 use crate::words::{read_bound, read_exact, read_out, read_slot};
 use kb_chain::Log;
@@ -47,7 +47,7 @@ fn undecided(alloc: Global) -> Leaf {
 /// As in `4 2 1 7 30`.
 fn add_to_log(alloc: Global, rest: &str, leaf: &mut Leaf) -> RowResult<()> {
     match leaf {
-        Leaf::Undecided(log) => push(read_chain(alloc, rest, ' '), &mut log.entries),
+        Leaf::Undecided(log) => push(read_learnt(alloc, rest), &mut log.entries),
         _ => Err(RowStop::Malformed),
     }
 }

@@ -14,7 +14,6 @@ mod words;
 
 pub use inputs::{add_to_input, no_input};
 pub use leaves::add_carried;
-pub use logs::read_chain;
 pub use paths::{add_to_path, path_of};
 pub use texts::split;
-pub use words::read_slot;
+pub use words::{read_location, read_slot};

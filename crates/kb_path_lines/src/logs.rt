@@ -1,27 +1,15 @@
 //! The lines of logs.
 
 use kb_chain::Chain;
-use kb_rows::Row;
-use kb_table::{RowResult, RowStop, read_numbers};
+use kb_log_text::read_chain;
+use kb_table::{RowResult, RowStop, kept};
 use std::alloc::Global;
 
-/// A chain: the number of its first clause, and then a pivot and a number for each step, with such a character between two.
-pub fn read_chain(alloc: Global, text: &str, between: char) -> RowResult<Chain> {
-    let numbers = read_numbers(alloc, text, between)?;
-    let [start, others @ ..] = numbers.as_slice() else {
-        return Err(RowStop::Malformed);
-    };
-    if others.len() % 2 != 0 {
-        return Err(RowStop::Malformed);
+/// The chain of a line `learn`, by what stands behind that word.
+pub fn read_learnt(alloc: Global, text: &str) -> RowResult<Chain> {
+    let line = format!(in alloc; "learn {text}")?;
+    match kept(read_chain(alloc, line.as_bytes()))? {
+        Some(chain) => Ok(chain),
+        None => Err(RowStop::Malformed),
     }
-    let mut steps = Row::new(alloc);
-    for step in others.chunks_exact(2) {
-        if let [pivot, number] = step {
-            steps.push((*pivot, *number))?;
-        }
-    }
-    Ok(Chain {
-        start: *start,
-        steps,
-    })
 }

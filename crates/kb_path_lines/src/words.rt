@@ -35,6 +35,11 @@ pub fn numbered(word: &str, letter: &str) -> Option<u32> {
     digits.parse::<u32>().ok()
 }
 
+/// The number of a location, as in `l0`.
+pub fn read_location(word: &str) -> Option<u32> {
+    numbered(word, "l")
+}
+
 /// `a0` for an argument, `o0.1` for a slot by its number, `o0[1]` for an element.
 pub fn read_slot(word: &str) -> RowResult<Origin> {
     if let Some(argument) = numbered(word, "a") {
@@ -76,7 +81,7 @@ fn read_seen_number(word: &str) -> RowResult<Seen> {
     if let Some(variable) = numbered(word, "v") {
         return Ok(Seen::Int(variable));
     }
-    match numbered(word, "l") {
+    match read_location(word) {
         Some(loc) => Ok(Seen::Loc(loc)),
         None => Ok(Seen::Obj(read_object(word)?)),
     }
@@ -112,7 +117,7 @@ pub fn read_out(word: &str) -> RowResult<Out> {
 
 /// A location, an object of the picture, a literal, or an object that the run made.
 fn read_reference(word: &str) -> Option<Out> {
-    if let Some(loc) = numbered(word, "l") {
+    if let Some(loc) = read_location(word) {
         return Some(Out::Loc(loc));
     }
     if let Some(object) = numbered(word, "o") {

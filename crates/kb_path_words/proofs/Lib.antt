@@ -1,1 +1,5 @@
 pub mod TextLaws
+pub mod ReadBack
+pub mod WordLaws
+pub mod ReadLaws
+pub mod SlotLaws

@@ -1,2 +1,5 @@
 pub mod Words
 pub mod Lines
+pub mod Ranges
+pub mod Spelled
+pub mod Slots

@@ -2,7 +2,8 @@
 use Rattle.std.specs.Prelude.{ℕ, ◌+◌, List, [], ◌∷◌, ◌++◌, codes, length, Some, None}
 use Rattle.std.specs.List.{flat_map}
 use Rattle.std.specs.Fmt.{decimal}
-use Rattle.kb_path_words.specs.Words.{place_text, bound_name, out_text}
+use Rattle.kb_heap_words.specs.Words.{place_text, bound_name}
+use Rattle.kb_path_words.specs.Words.{out_text}
 use Rattle.kb_picture.specs.declared.path.SymEnding.{SymEnding}
 use Rattle.kb_picture.specs.declared.path.SymEnding.TheVariants.{Returned, Threw, IllTyped}
 use Rattle.kb_picture.specs.declared.path.Leaf.{Leaf}

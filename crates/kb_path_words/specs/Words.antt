@@ -1,18 +1,9 @@
--- How the parts of a line are written: what slots are seen to hold, operands, values, types, bounds. Each has one spelling. Most of
--- them stand in reports and in diagrams, the others in reports alone.
+-- How the parts of a line are written: what slots are seen to hold, operands, values. Each has one spelling. Most of them stand in
+-- reports and in diagrams, the others in reports alone.
 use Rattle.std.specs.Prelude.{ℕ, List, [], ◌++◌, codes, Option, Some, None}
 use Rattle.std.specs.Fmt.{decimal, signed_decimal}
-use Rattle.kb_heap.specs.declared.bounds.Bound.{Bound}
-use Rattle.kb_heap.specs.declared.bounds.Bound.TheVariants.{K, Array as ArrayBound, Alloc, Loops, Depth, Steps}
-use Rattle.kb_heap.specs.declared.ending.Place.{Place}
 use Rattle.kb_heap.specs.declared.heap.Value.{Value}
 use Rattle.kb_heap.specs.declared.heap.Value.TheVariants as values
-use Rattle.kb_names.specs.Descriptors.{type_text}
-use Rattle.kb_names.specs.Escapes.{name_text}
-use Rattle.kb_names.specs.Targets.{target_text}
-use Rattle.kb_names.specs.declared.class_names.Spelling.TheVariants.{Escaped}
-use Rattle.kb_names.specs.declared.types.ExactType.{ExactType}
-use Rattle.kb_names.specs.declared.types.ExactType.TheVariants as exact
 use Rattle.kb_terms.specs.Op.{op_name}
 use Rattle.kb_terms.specs.declared.listing.Operand.{Operand}
 use Rattle.kb_terms.specs.declared.listing.Operand.TheVariants.{Const, Var, Term as TermOperand}
@@ -25,25 +16,6 @@ use Rattle.kb_picture.specs.declared.picture.Seen.{Seen}
 use Rattle.kb_picture.specs.declared.picture.Seen.TheVariants as seens
 use Rattle.kb_picture.specs.declared.picture.Standing.{Standing}
 use Rattle.kb_picture.specs.declared.picture.Standing.TheVariants as standings
-
--- ---- types, methods, bounds
-
--- an exact type: a class by its name, an array by its descriptor (JVMS 8 section 4.3.2)
-unfoldable pub exact_text : ExactType → List ℕ
-exact_text (exact.Class name) = name_text name
-exact_text (exact.Array component) = codes "[" ++ type_text Escaped component
-
--- an instruction: its method and its offset
-unfoldable pub place_text : Place → List ℕ
-place_text place = target_text place.method ++ (codes " " ++ decimal place.at)
-
-unfoldable pub bound_name : Bound → List ℕ
-bound_name K = codes "k"
-bound_name ArrayBound = codes "array"
-bound_name Alloc = codes "alloc"
-bound_name Loops = codes "loops"
-bound_name Depth = codes "depth"
-bound_name Steps = codes "steps"
 
 -- ---- what slots hold
 

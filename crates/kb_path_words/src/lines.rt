@@ -4,7 +4,8 @@ ghost use Rattle.kb_path_words.specs.Lines.{decisions_text, further_decisions, e
 
 use crate::NoMemory;
 use crate::text::Text;
-use crate::words::{bound_name, write_out, write_place};
+use crate::words::write_out;
+use kb_heap_words::bound_name;
 use kb_picture::{Leaf, SymEnding};
 
 /// The decisions, joined by dots.
@@ -67,7 +68,7 @@ fn write_ending(text: &mut Text, ending: &SymEnding) -> Result<(), NoMemory>
         }
         SymEnding::IllTyped(place) => {
             text.put("illtyped ")?;
-            write_place(text, place)
+            text.place(place)
         }
     }
 }

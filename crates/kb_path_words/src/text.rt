@@ -2,6 +2,7 @@
 ghost use Rattle.std.specs.Prelude.{◌≡◌, ◌∷◌, [], ◌++◌, OnOk};
 ghost use Rattle.std.specs.Fmt.{decimal, signed_decimal};
 ghost use Rattle.kb_grammar.specs.Lines.{lines_text};
+ghost use Rattle.kb_heap_words.specs.Words.{exact_text, place_text};
 ghost use Rattle.kb_log_text.specs.Lines.{learn_lines};
 ghost use Rattle.kb_names.specs.Escapes.{name_text};
 ghost use Rattle.kb_names.specs.Descriptors.{type_text};
@@ -9,8 +10,10 @@ ghost use Rattle.kb_names.specs.Targets.{target_text};
 
 use crate::NoMemory;
 use kb_chain::Log;
+use kb_heap::Place;
+use kb_heap_words::{write_exact, write_place};
 use kb_log_text::write_log;
-use kb_names::{JType, Name, Spelling, Target, write_name, write_target, write_type};
+use kb_names::{ExactType, JType, Name, Spelling, Target, write_name, write_target, write_type};
 use std::alloc::Global;
 use std::marker::Model;
 
@@ -94,6 +97,22 @@ impl Text {
         ensures { OnOk result (self.new ≡ self.old ++ type_text Spelling.Escaped of.now) }
     {
         write_type(of, Spelling::Escaped, &mut self.bytes)?;
+        Ok(())
+    }
+
+    /// A class by its name, an array by its descriptor.
+    pub fn exact(&mut self, kind: &ExactType) -> Result<(), NoMemory>
+        ensures { OnOk result (self.new ≡ self.old ++ exact_text kind.now) }
+    {
+        write_exact(kind, &mut self.bytes)?;
+        Ok(())
+    }
+
+    /// An instruction by its method and its offset.
+    pub fn place(&mut self, place: &Place) -> Result<(), NoMemory>
+        ensures { OnOk result (self.new ≡ self.old ++ place_text place.now) }
+    {
+        write_place(self.alloc, place, &mut self.bytes)?;
         Ok(())
     }
 

@@ -1,50 +1,12 @@
 //! The parts of a line are written.
 ghost use Rattle.std.specs.Prelude.{◌≡◌, ◌++◌, OnOk};
 ghost use Rattle.std.specs.Fmt.{decimal};
-ghost use Rattle.kb_path_words.specs.Words.{exact_text, place_text, bound_name, seen_text, standing_text, length_text, operand_text, second_text, term_text, out_text, value_text};
+ghost use Rattle.kb_path_words.specs.Words.{seen_text, standing_text, length_text, operand_text, second_text, term_text, out_text, value_text};
 
 use crate::NoMemory;
 use crate::text::Text;
-use kb_heap::{Bound, Place, Value};
-use kb_names::ExactType;
+use kb_heap::Value;
 use kb_picture::{Length, Operand, Out, Seen, Standing, Term};
-
-/// A class by its name, an array by its descriptor.
-#[tactic(auto, unfolding(crate::specs::Words::exact_text))]
-pub fn write_exact(text: &mut Text, kind: &ExactType) -> Result<(), NoMemory>
-    ensures { OnOk result (text.new ≡ text.old ++ exact_text kind.now) }
-{
-    match kind {
-        ExactType::Class(name) => text.name(name),
-        ExactType::Array(component) => {
-            text.put("[")?;
-            text.descriptor(component)
-        }
-    }
-}
-
-#[tactic(auto, unfolding(crate::specs::Words::place_text))]
-pub(crate) fn write_place(text: &mut Text, place: &Place) -> Result<(), NoMemory>
-    ensures { OnOk result (text.new ≡ text.old ++ place_text place.now) }
-{
-    text.target(&place.method)?;
-    text.put(" ")?;
-    text.number(place.at)
-}
-
-#[tactic(auto, unfolding(crate::specs::Words::bound_name))]
-pub(crate) fn bound_name(bound: Bound) -> &'static str
-    ensures { result.now ≡ bound_name bound }
-{
-    match bound {
-        Bound::K => "k",
-        Bound::Array => "array",
-        Bound::Alloc => "alloc",
-        Bound::Loops => "loops",
-        Bound::Depth => "depth",
-        Bound::Steps => "steps",
-    }
-}
 
 /// A number behind a letter or the like.
 pub fn write_numbered(text: &mut Text, front: &str, number: u32) -> Result<(), NoMemory>

@@ -11,7 +11,7 @@ use Rattle.kb_heap.specs.declared.heap.Object.{Object}
 use Rattle.kb_heap.specs.declared.heap.Heap.{Heap}
 use Rattle.kb_heap.specs.declared.heap.Input.{Input}
 use Rattle.kb_heap.specs.Heap.{object_at, value_at}
-use Rattle.kb_link.proofs.Places.{get_kept, get_pushed}
+use Rattle.kb_classes.proofs.Places.{get_kept, get_pushed}
 use Rattle.kb_semantics.specs.Past.{Holds as HoldsObject, AreLinked, BeginsAtArgument, IsPastK, IsPastArray}
 use Rattle.kb_picture.specs.declared.picture.Origin.{Origin}
 use Rattle.kb_picture.specs.declared.picture.Origin.TheVariants.{Arg, Field, Element}

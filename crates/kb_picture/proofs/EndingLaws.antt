@@ -17,8 +17,8 @@ use Rattle.kb_heap.specs.declared.heap.Object.{Object}
 use Rattle.kb_heap.specs.declared.heap.Heap.{Heap}
 use Rattle.kb_heap.specs.declared.heap.Input.{Input}
 use Rattle.kb_heap.specs.Heap.{object_at, object_with, with_object_at, with_value, literal}
-use Rattle.kb_link.specs.World.{World}
-use Rattle.kb_link.specs.declared.slots.FieldSlot.{FieldSlot}
+use Rattle.kb_classes.specs.World.{World}
+use Rattle.kb_classes.specs.declared.slots.FieldSlot.{FieldSlot}
 use Rattle.kb_semantics.specs.Inputs.{IsInputObject, HasValuesOf, IsTypeCorrect}
 use Rattle.kb_semantics.specs.Values.{IsObjectOf, IsValueOf, AreValuesOf, slots_of_class}
 use Rattle.kb_picture.specs.declared.picture.Origin.{Origin}

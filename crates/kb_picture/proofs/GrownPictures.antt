@@ -5,8 +5,8 @@ use Rattle.std.proofs.lemmas.List.Elements.{filter_map-append}
 use Rattle.std.proofs.lemmas.Option.{slice_get_cases, slice_get_within, slice_get-map}
 use Rattle.std.specs.Option.{option_map}
 use Rattle.kb_class.specs.Naming.{Has}
-use Rattle.kb_link.proofs.Places.{get_kept, get_last, get_pushed}
-use Rattle.kb_link.specs.World.{World}
+use Rattle.kb_classes.proofs.Places.{get_kept, get_last, get_pushed}
+use Rattle.kb_classes.specs.World.{World}
 use Rattle.kb_names.specs.declared.types.ExactType.{ExactType}
 use Rattle.kb_semantics.specs.Looks.{numbers_below}
 use Rattle.kb_picture.specs.declared.choice.Choice.{Choice}
@@ -24,7 +24,7 @@ use Rattle.kb_picture.specs.declared.picture.Standing.TheVariants as standings
 use Rattle.kb_picture.specs.Growing.{IsUnread, IsChoiceIn}
 use Rattle.kb_picture.specs.Growth.{after_read, after_int_read, with_open_loc, with_fresh}
 use Rattle.kb_picture.specs.Laws.{with_seen}
-use Rattle.kb_picture.specs.WellFormed.{IsPicture, IsSlot, IsFound, IsFoundIn, IsSeenAs, IsStanding, LeadsTo, IsLengthOf, slots_seen, variable_seen, variables_seen, location_seen, locations_seen}
+use Rattle.kb_picture.specs.WellFormed.{IsPicture, IsSlot, IsSeenAs, IsStanding, LeadsTo, IsLengthOf, slots_seen, variable_seen, variables_seen, location_seen, locations_seen}
 
 -- ---- more of everything
 
@@ -72,14 +72,6 @@ leads_more old new slot number more leads = elim leads [
   })
 ]
 
-found_more : (old new : Picture) (before : List Origin) (number : ℕ) → Extends old new → IsFound old before number → IsFound new before number
-found_more old new before number more f = (f.0, f.1, leads_more old new f.0 number more f.2)
-
-found_in_more : (old new : Picture) (before : List Origin) (slot : Origin) → Extends old new → IsFoundIn old before slot → IsFoundIn new before slot
-found_in_more old new before (Arg number) more f = tt
-found_in_more old new before (Field number slot) more f = found_more old new before number more f
-found_in_more old new before (Element number index) more f = found_more old new before number more f
-
 pub seen_as_more : (old new : Picture) (seen : Seen) → Extends old new → IsSeenAs old seen → IsSeenAs new seen
 seen_as_more old new (seens.Int number) more s = tt
 seen_as_more old new seens.Null more s = tt
@@ -125,44 +117,14 @@ leads_seen picture slot number leads = elim leads [
     read seen h = (h.0, slice_get-map origin_seen picture.seen h.0 ∙ ap (option_map origin_seen) h.1)
 
 module _ (world : World) (params : ℕ) (old new : Picture) (slot : Origin) (how : Seen) (grows : GrowsBy world params old new slot how) (unread : IsUnread world params old slot) where
-  object_found : (number : ℕ) (object : PicObject) → slice_get old.objects number ≡ Some object → IsFound new (slots_seen old) number
-  object_found number object at =
-      let leads : LeadsTo old object.origin number = (unread.formed.origins number object at).1 in
-      (object.origin, leads_seen old object.origin number leads, leads_more old new object.origin number grows.more leads)
-
-  slot_found : (of : Origin) → IsSlot world params old.objects of → IsFoundIn new (slots_seen old) of
-  slot_found (Arg number) there = tt
-  slot_found (Field number field) there = object_found number there.0 there.1
-  slot_found (Element number index) there = object_found number there.0 there.1
-
-  slots : (i : ℕ) (of : Origin) → slice_get (slots_seen new) i ≡ Some of → IsSlot world params new.objects of × IsFoundIn new (take i (slots_seen new)) of
-  slots i of at =
-      subst (λ (seen : List Origin). IsSlot world params new.objects of × IsFoundIn new (take i seen) of) (sym is)
-      (elim (get_pushed (slots_seen old) slot i of (ap (λ (seen : List Origin). slice_get seen i) (sym is) ∙ at)) [
-        | inl h ↦ earlier h
-        | inr h ↦ last h.0 h.1
-      ])
+  slots : (i : ℕ) (of : Origin) → slice_get (slots_seen new) i ≡ Some of → IsSlot world params new.objects of
+  slots i of at = elim (get_pushed (slots_seen old) slot i of (ap (λ (seen : List Origin). slice_get seen i) (sym is) ∙ at)) [
+    | inl h ↦ slot_more world params old.objects new.objects of grows.more.objects (unread.formed.slots i of h)
+    | inr h ↦ subst (IsSlot world params new.objects) h.1 (slot_more world params old.objects new.objects slot grows.more.objects unread.there)
+  ]
     where
       is : slots_seen new ≡ slots_seen old ++ slot ∷ []
       is = slots_grown old new slot how grows.seen_is
-
-      earlier : slice_get (slots_seen old) i ≡ Some of → IsSlot world params new.objects of × IsFoundIn new (take i (slots_seen old ++ slot ∷ [])) of
-      earlier h =
-          let within : i < length (slots_seen old) = slice_get_within (slots_seen old) i of h in
-          let front : take i (slots_seen old ++ slot ∷ []) ≡ take i (slots_seen old) = take-append-le i (slots_seen old) (slot ∷ []) (omega (arith, within)) in
-          let before = unread.formed.slots i of h in (
-            slot_more world params old.objects new.objects of grows.more.objects before.0,
-            subst (λ (seen : List Origin). IsFoundIn new seen of) (sym front) (found_in_more old new (take i (slots_seen old)) of grows.more before.1),
-          )
-
-      last : i ≡ length (slots_seen old) → slot ≡ of → IsSlot world params new.objects of × IsFoundIn new (take i (slots_seen old ++ slot ∷ [])) of
-      last end same =
-          let front : take i (slots_seen old ++ slot ∷ []) ≡ slots_seen old =
-          take-append-le i (slots_seen old) (slot ∷ []) (omega (arith, end)) ∙ take_all i (slots_seen old) (omega (arith, end)) in
-          subst (λ (o : Origin). IsSlot world params new.objects o × IsFoundIn new (take i (slots_seen old ++ slot ∷ [])) o) same (
-            slot_more world params old.objects new.objects slot grows.more.objects unread.there,
-            subst (λ (seen : List Origin). IsFoundIn new seen slot) (sym front) (slot_found slot unread.there),
-          )
 
   once : (i j : ℕ) (of : Origin) → slice_get (slots_seen new) i ≡ Some of → slice_get (slots_seen new) j ≡ Some of → i ≡ j
   once i j of one other =

@@ -6,8 +6,8 @@ use Rattle.kb_heap.specs.declared.heap.Value.{Value}
 use Rattle.kb_heap.specs.declared.heap.Heap.{Heap}
 use Rattle.kb_heap.specs.declared.heap.Input.{Input}
 use Rattle.kb_heap.specs.Heap.{value_at}
-use Rattle.kb_link.proofs.Places.{get_kept}
-use Rattle.kb_link.specs.World.{World}
+use Rattle.kb_classes.proofs.Places.{get_kept}
+use Rattle.kb_classes.specs.World.{World}
 use Rattle.kb_names.specs.declared.types.ExactType.{ExactType}
 use Rattle.kb_terms.proofs.Entries.{slice_get-append-left, slice_get-take}
 use Rattle.kb_picture.proofs.PlaceLaws.{ArePlaced, placed_parts, placed_behind, places_seen}
@@ -30,7 +30,7 @@ use Rattle.kb_picture.specs.Growth.{after_read, after_int_read, with_open_loc, w
 use Rattle.kb_picture.specs.Laws.{with_seen}
 use Rattle.kb_picture.specs.Places.{value_in, slot_value, object_named, place_of, objects_placed, locs_placed, with_locs_placed, places_of}
 use Rattle.kb_picture.specs.Shapes.{HasShape, HoldEach, HoldsSeen, IsNoPlace, AreApart, Stands}
-use Rattle.kb_picture.specs.WellFormed.{IsSlot, IsSeenAs, IsStanding, variables_seen}
+use Rattle.kb_picture.specs.WellFormed.{IsPicture, IsSlot, IsSeenAs, IsStanding, variables_seen}
 
 -- ---- lists of places
 
@@ -156,7 +156,7 @@ locs_length input objects (loc ∷ locs) found e =
 pub locs_many : (picture : Picture) (input : Input) (places : PlaceLists) → places_of picture input ≡ Some places → length places.locs ≡ length picture.locs
 locs_many picture input places e = locs_length input places.objects picture.locs places.locs (placed_parts picture input places e).locs
 
-kept_same : (old : Picture) (input : Input) (places : PlaceLists) → places_of old input ≡ Some places → PlacesKept old places places
+pub kept_same : (old : Picture) (input : Input) (places : PlaceLists) → places_of old input ≡ Some places → PlacesKept old places places
 kept_same old input places e = record {
   objects = take_all (length old.objects) places.objects (omega (arith, as_many old input places e));
   locs = take_all (length old.locs) places.locs (omega (arith, locs_length input places.objects old.locs places.locs (placed_parts old input places e).locs));
@@ -184,7 +184,7 @@ unfolding before_seen
 seen_places old x input before after = same_places old input before.places before.placed (before_seen old x input after).shape
 
 -- the same shape before and after
-before_same : (old : Picture) (input : Input) (after : HasShape old input) → ShapeBefore old input after.places
+pub before_same : (old : Picture) (input : Input) (after : HasShape old input) → ShapeBefore old input after.places
 before_same old input after = record { shape = after; kept = kept_same old input after.places after.placed }
 
 -- one more object, which is placed behind the others
@@ -256,23 +256,22 @@ locs_split input objects (first ∷ locs) loc found e =
           after_is = ap (λ (m : List ℕ). p ∷ m) split.after_is ∙ whole;
         }
 
-module _ (world : World) (params : ℕ) (old : Picture) (slot : Origin) (input : Input) (unread : IsUnread world params old slot) where
-  pub seen_each : (n : ℕ) (x : Origin × Seen) → slice_get old.seen n ≡ Some x → IsSlot world params old.objects x.0 × IsSeenAs old x.1
-  seen_each n x at = ((unread.formed.slots n x.0 (seen_slot old.seen n x at)).0, unread.formed.seen n x at)
+-- what a picture sees is there, and was found in slots that are there
+module _ (world : World) (params : ℕ) (old : Picture) (formed : IsPicture world params old) where
+  pub seen_there : (n : ℕ) (x : Origin × Seen) → slice_get old.seen n ≡ Some x → IsSlot world params old.objects x.0 × IsSeenAs old x.1
+  seen_there n x at = (formed.slots n x.0 (seen_slot old.seen n x at), formed.seen n x at)
     where
       seen_slot : (seen : List (Origin × Seen)) (i : ℕ) (y : Origin × Seen) → slice_get seen i ≡ Some y → slice_get (map (λ (s : Origin × Seen). s.0) seen) i ≡ Some y.0
       seen_slot seen i y there = slice_get-map (λ (s : Origin × Seen). s.0) seen i ∙ ap (option_map (λ (s : Origin × Seen). s.0)) there
 
-  loc_each : (n : ℕ) (loc : PicLoc) → slice_get old.locs n ≡ Some loc → IsSlot world params old.objects loc.origin
-  loc_each n loc at =
-      let read = (unread.formed.locs n loc at).0 in
-      (seen_each read.0 (loc.origin, seens.Loc n) read.1).0
+  pub loc_there : (n : ℕ) (loc : PicLoc) → slice_get old.locs n ≡ Some loc → IsSlot world params old.objects loc.origin
+  loc_there n loc at =
+      let read = (formed.locs n loc at).0 in
+      (seen_there read.0 (loc.origin, seens.Loc n) read.1).0
 
-  pub before_fresh : (kind : ExactType) (len : Length) (how : Seen) (after : HasShape (with_seen (with_fresh old slot kind len) (slot, how)) input) → ShapeBefore old input after.places
-  before_fresh kind len how after =
-      let placed : ObjectPlaced old object input after.places =
-      object_placed old object input after.places (placed_parts (with_fresh old slot kind len) input after.places (sym (places_seen (with_fresh old slot kind len) input (slot, how)) ∙ after.placed)) in
-      from placed
+  -- one more object
+  pub before_object : (slot : Origin) (input : Input) (kind : ExactType) (len : Length) (after : HasShape (with_fresh old slot kind len) input) → ShapeBefore old input after.places
+  before_object slot input kind len after = from (object_placed old object input after.places (placed_parts (with_fresh old slot kind len) input after.places after.placed))
     where
       object : PicObject
       object = record { kind = kind; length = len; origin = slot }
@@ -283,7 +282,7 @@ module _ (world : World) (params : ℕ) (old : Picture) (slot : Origin) (input :
           let len : length placed.before ≡ length old.objects = omega (arith, many) in
           let back : after.places.objects ≡ placed.before ++ placed.place ∷ [] = sym placed.after_is in
           let locs : locs_placed input placed.before old.locs ≡ Some after.places.locs =
-          sym (locs_same world params old.objects input placed.before (placed.place ∷ []) old.locs len loc_each) ∙ placed.locs in
+          sym (locs_same world params old.objects input placed.before (placed.place ∷ []) old.locs len loc_there) ∙ placed.locs in
           let kept : PlacesKept old (record { objects = placed.before; locs = after.places.locs }) after.places = record {
             objects = rw back (take-append-le (length old.objects) placed.before (placed.place ∷ []) (omega (arith, len)) ∙ take_all (length old.objects) placed.before (omega (arith, len)));
             locs = take_all (length old.locs) after.places.locs (omega (arith, locs_length input placed.before old.locs after.places.locs locs));
@@ -292,16 +291,30 @@ module _ (world : World) (params : ℕ) (old : Picture) (slot : Origin) (input :
             shape = record {
               places = record { objects = placed.before; locs = after.places.locs };
               placed = placed_from old input placed.before after.places.locs placed.objects locs;
-              seen = hold_fewer world params old input placed.before (placed.place ∷ []) old.seen len seen_each
-                  (subst (λ (os : List ℕ). HoldEach input os old.seen) back (hold_front input after.places.objects old.seen ((slot, how) ∷ []) after.seen));
+              seen = hold_fewer world params old input placed.before (placed.place ∷ []) old.seen len seen_there
+                  (subst (λ (os : List ℕ). HoldEach input os old.seen) back after.seen);
               apart = apart_front placed.before placed.place (subst AreApart back after.apart);
               such = λ number place expected there at. after.such number place expected (get_kept old.objects object number expected there)
                   (ap (λ (os : List ℕ). slice_get os number) back ∙ get_kept placed.before placed.place number place at);
-              stands = λ number place loc there at. stands_fewer old placed.before (placed.place ∷ []) loc.standing place len (unread.formed.locs number loc there).1
+              stands = λ number place loc there at. stands_fewer old placed.before (placed.place ∷ []) loc.standing place len (formed.locs number loc there).1
                   (subst (λ (os : List ℕ). Stands os loc.standing place) back (after.stands number place loc there at));
             };
             kept = kept;
           }
+
+module _ (world : World) (params : ℕ) (old : Picture) (slot : Origin) (input : Input) (unread : IsUnread world params old slot) where
+  pub seen_each : (n : ℕ) (x : Origin × Seen) → slice_get old.seen n ≡ Some x → IsSlot world params old.objects x.0 × IsSeenAs old x.1
+  seen_each n x at = seen_there world params old unread.formed n x at
+
+  pub before_fresh : (kind : ExactType) (len : Length) (how : Seen) (after : HasShape (with_seen (with_fresh old slot kind len) (slot, how)) input) → ShapeBefore old input after.places
+  before_fresh kind len how after =
+      let base : ShapeBefore new input after.places = before_seen new (slot, how) input after in
+      let same : base.shape.places ≡ after.places =
+      same_places new input after.places (sym (places_seen new input (slot, how)) ∙ after.placed) base.shape in
+      subst (ShapeBefore old input) same (before_object world params old unread.formed slot input kind len base.shape)
+    where
+      new : Picture
+      new = with_fresh old slot kind len
 
   -- one more location, which is placed behind the others
   pub before_location : (how : Seen) (after : HasShape (with_seen (with_open_loc old slot) (slot, how)) input) → ShapeBefore old input after.places
@@ -354,22 +367,25 @@ choice_places world params picture slot choice input unread before after =
     let found = before_choice world params picture slot input unread choice after in
     subst (λ (places : PlaceLists). PlacesKept picture places after.places) (same_places picture input before.places before.placed found.shape) found.kept
 
-pub new_place : (world : World) (params : ℕ) (picture : Picture) (slot : Origin) (kind : ExactType) (len : Length) (input : Input) (place : ℕ) → IsUnread world params picture slot
-    → (before : HasShape picture input) (after : HasShape (after_read picture slot (choices.Fresh kind len)) input) → slice_get after.places.objects (length picture.objects) ≡ Some place
-    → IsNoPlace before.places.objects place
-new_place world params picture slot kind len input place unread before after at =
+-- the place of a new object is none of the earlier ones
+pub new_elsewhere : (picture : Picture) (input : Input) (after : PlaceLists) (place : ℕ) → AreApart after.objects → (before : HasShape picture input) → PlacesKept picture before.places after
+    → slice_get after.objects (length picture.objects) ≡ Some place → IsNoPlace before.places.objects place
+new_elsewhere picture input after place two before kept at =
     no_place before.places.objects place (λ n there. apart n there)
   where
-    kept : take (length picture.objects) after.places.objects ≡ before.places.objects
-    kept = (choice_places world params picture slot (choices.Fresh kind len) input unread before after).objects
-
     apart : (n : ℕ) → slice_get before.places.objects n ≡ Some place → ⊥
     apart n there =
         let within : n < length before.places.objects = slice_get_within before.places.objects n place there in
         let many : length before.places.objects ≡ length picture.objects = as_many picture input before.places before.placed in
-        let front : slice_get (take (length picture.objects) after.places.objects) n ≡ Some place = ap (λ (ps : List ℕ). slice_get ps n) kept ∙ there in
-        let same : n ≡ length picture.objects = after.apart n (length picture.objects) place (sym (slice_get-take (length picture.objects) after.places.objects n (omega (arith, within, many))) ∙ front) at in
+        let front : slice_get (take (length picture.objects) after.objects) n ≡ Some place = ap (λ (ps : List ℕ). slice_get ps n) kept.objects ∙ there in
+        let same : n ≡ length picture.objects = two n (length picture.objects) place (sym (slice_get-take (length picture.objects) after.objects n (omega (arith, within, many))) ∙ front) at in
         absurd (omega (arith, within, many, same))
+
+pub new_place : (world : World) (params : ℕ) (picture : Picture) (slot : Origin) (kind : ExactType) (len : Length) (input : Input) (place : ℕ) → IsUnread world params picture slot
+    → (before : HasShape picture input) (after : HasShape (after_read picture slot (choices.Fresh kind len)) input) → slice_get after.places.objects (length picture.objects) ≡ Some place
+    → IsNoPlace before.places.objects place
+new_place world params picture slot kind len input place unread before after at =
+    new_elsewhere picture input after.places place after.apart before (choice_places world params picture slot (choices.Fresh kind len) input unread before after) at
 
 pub int_shape : (picture : Picture) (slot : Origin) (input : Input) → HasShape (after_int_read picture slot) input → HasShape picture input
 unfolding after_int_read

@@ -4,9 +4,9 @@ use Rattle.std.proofs.lemmas.Option.{same_Some, slice_get_cases, slice_get_withi
 use Rattle.kb_class.specs.Naming.{Has}
 use Rattle.kb_class.specs.declared.ids.MethodId.{MethodId}
 use Rattle.kb_class.specs.Members.{is_static}
-use Rattle.kb_link.proofs.Places.{get_kept, get_last, get_pushed}
-use Rattle.kb_link.specs.Subtypes.{fits}
-use Rattle.kb_link.specs.World.{World}
+use Rattle.kb_classes.proofs.Places.{get_kept, get_last, get_pushed}
+use Rattle.kb_classes.specs.Subtypes.{fits}
+use Rattle.kb_classes.specs.World.{World}
 use Rattle.kb_names.specs.declared.types.ExactType.{ExactType}
 use Rattle.kb_names.specs.declared.types.JType.{JType}
 use Rattle.kb_picture.proofs.GrownPictures.{IsFrontOf, Extends, GrowsBy, grown_formed, by_seen, by_int, by_location, by_fresh, leads_seen}
@@ -68,17 +68,40 @@ declared_more world id old new slot seen more h = go (type_of_slot world id old.
     go None at f = absurd f
     go (Some type) at f = subst (λ (t : Option JType). SeenFitsDeclared world new t seen) (sym (type_more world id old.objects new.objects slot type more.objects at)) (seen_fits_more world old new type seen more f)
 
+-- an object that was there is the one that is there
+pub object_before : (old new : List PicObject) (number : ℕ) (object : PicObject) → IsFrontOf old new → number < length old → slice_get new number ≡ Some object → slice_get old number ≡ Some object
+object_before old new number object more inside at = elim (slice_get_cases old number).1 [
+  | inl h ↦
+      let same : Some h.0 ≡ Some object = sym (more number h.0 h.2) ∙ at in
+      h.2 ∙ same
+  | inr h ↦ absurd (omega (arith, inside, h.0))
+]
+
+-- a slot that was read has the type that it had
+module _ (world : World) (id : MethodId) (old : Picture) (objects : List PicObject) (typed : IsWellTyped world id old) (more : IsFrontOf old.objects objects) where
+  typed_slot : (of : Origin) → Has (slots_seen old) of → (t : JType) × (type_of_slot world id old.objects of ≡ Some t)
+  typed_slot of h = from (slice_get old.seen h.0) refl (sym (slice_get-map (λ (x : Origin × Seen). x.0) old.seen h.0) ∙ h.1)
+    where
+      is_some_type : (x : Origin × Seen) (t : Option JType) → type_of_slot world id old.objects x.0 ≡ t → SeenFitsDeclared world old t x.1 → (u : JType) × (type_of_slot world id old.objects x.0 ≡ Some u)
+      is_some_type x None there g = absurd g
+      is_some_type x (Some u) there g = (u, there)
+
+      from : (x : Option (Origin × Seen)) → slice_get old.seen h.0 ≡ x → option_map (λ (y : Origin × Seen). y.0) x ≡ Some of → (t : JType) × (type_of_slot world id old.objects of ≡ Some t)
+      from None at f = absurd cc
+      from (Some x) at f =
+          let same : x.0 ≡ of = cc in
+          subst (λ (o : Origin). (t : JType) × (type_of_slot world id old.objects o ≡ Some t)) same (is_some_type x (type_of_slot world id old.objects x.0) refl (typed.seen h.0 x at))
+
+  pub type_before : (of : Origin) (type : JType) → Has (slots_seen old) of → type_of_slot world id objects of ≡ Some type → type_of_slot world id old.objects of ≡ Some type
+  type_before of type read e =
+      let u = typed_slot of read in
+      u.1 ∙ sym (type_more world id old.objects objects of u.0 more u.1) ∙ e
+
 module _ (world : World) (id : MethodId) (old new : Picture) (slot : Origin) (how : Seen) (typed : IsWellTyped world id old)
     (unread : IsUnread world (params_of world typed.method) old slot) (grows : GrowsBy world (params_of world typed.method) old new slot how)
     (opens : (number : ℕ) (loc : PicLoc) → slice_get new.locs number ≡ Some loc → (slice_get old.locs number ≡ Some loc) ⊎ (loc.standing ≡ standings.Open)) where
-  -- an object that was there is the one that is there
   old_object : (number : ℕ) (object : PicObject) → number < length old.objects → slice_get new.objects number ≡ Some object → slice_get old.objects number ≡ Some object
-  old_object number object inside at = elim (slice_get_cases old.objects number).1 [
-    | inl h ↦
-        let same : Some h.0 ≡ Some object = sym (grows.more.objects number h.0 h.2) ∙ at in
-        h.2 ∙ same
-    | inr h ↦ absurd (omega (arith, inside, h.0))
-  ]
+  old_object number object inside at = object_before old.objects new.objects number object grows.more.objects inside at
 
   -- a slot that leads to an object led there, or it is the new one
   abbrev LedBefore : Origin → ℕ → PicObject → Type 0
@@ -105,26 +128,6 @@ module _ (world : World) (id : MethodId) (old new : Picture) (slot : Origin) (ho
     | inr b ↦ by_bound_loc of number object at b
   ]
 
-  -- a slot of an object that was there has the type that it had
-  old_type : (of : Origin) (type : JType) → Has (slots_seen old) of → type_of_slot world id new.objects of ≡ Some type → type_of_slot world id old.objects of ≡ Some type
-  old_type of type read e = go (type_of_slot world id old.objects of) refl (typed_slot read)
-    where
-      typed_slot : Has (slots_seen old) of → (t : JType) × (type_of_slot world id old.objects of ≡ Some t)
-      typed_slot h = from (slice_get old.seen h.0) refl (sym (slice_get-map (λ (x : Origin × Seen). x.0) old.seen h.0) ∙ h.1)
-        where
-          from : (x : Option (Origin × Seen)) → slice_get old.seen h.0 ≡ x → option_map (λ (y : Origin × Seen). y.0) x ≡ Some of → (t : JType) × (type_of_slot world id old.objects of ≡ Some t)
-          from None at f = absurd cc
-          from (Some x) at f =
-              let same : x.0 ≡ of = cc in
-              subst (λ (o : Origin). (t : JType) × (type_of_slot world id old.objects o ≡ Some t)) same (is_some_type (type_of_slot world id old.objects x.0) refl (typed.seen h.0 x at))
-            where
-              is_some_type : (t : Option JType) → type_of_slot world id old.objects x.0 ≡ t → SeenFitsDeclared world old t x.1 → (u : JType) × (type_of_slot world id old.objects x.0 ≡ Some u)
-              is_some_type None there g = absurd g
-              is_some_type (Some u) there g = (u, there)
-
-      go : (t : Option JType) → type_of_slot world id old.objects of ≡ t → ((u : JType) × (type_of_slot world id old.objects of ≡ Some u)) → type_of_slot world id old.objects of ≡ Some type
-      go t at u = u.1 ∙ sym (type_more world id old.objects new.objects of u.0 grows.more.objects u.1) ∙ e
-
   pub grown_typed : SeenFitsDeclared world new (type_of_slot world id new.objects slot) how
       → (IsReceiver world id slot → how ≡ seens.Null → ⊥)
       → ((number : ℕ) (object : PicObject) → slice_get new.objects number ≡ Some object → (slice_get old.objects number ≡ Some object) ⊎ (Has world.universe object.kind × IsIntLength object.length))
@@ -138,7 +141,7 @@ module _ (world : World) (id : MethodId) (old new : Picture) (slot : Origin) (ho
     receiver = λ instance_method h. not_null_there instance_method h;
     universe = λ number object at. elim (objects number object at) [ inl h ↦ typed.universe number object h | inr h ↦ h.0 ];
     objects = λ number object of type at leads declared. elim (led of number object at leads) [
-      | inl h ↦ typed.objects number object of type h.0 h.1 (old_type of type (leads_seen old of number h.1) declared)
+      | inl h ↦ typed.objects number object of type h.0 h.1 (type_before world id old new.objects typed grows.more.objects of type (leads_seen old of number h.1) declared)
       | inr h ↦ led_fits number object type at h.1 (subst (λ (o : Origin). type_of_slot world id new.objects o ≡ Some type) (sym h.0) declared)
     ];
     lengths = λ number object at. elim (objects number object at) [ inl h ↦ typed.lengths number object h | inr h ↦ h.1 ];

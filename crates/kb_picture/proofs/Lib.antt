@@ -8,7 +8,12 @@ pub mod InstanceLaws
 pub mod GrowingLaws
 pub mod ReceiverLaws
 pub mod GrownPictures
+pub mod FoundLaws
 pub mod GrownShapes
 pub mod GrownTypes
 pub mod Taking
 pub mod HeldLaws
+pub mod BoundPictures
+pub mod BoundTypes
+pub mod BoundShapes
+pub mod ExampleLaws

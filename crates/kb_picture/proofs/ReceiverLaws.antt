@@ -5,7 +5,7 @@ use Rattle.std.specs.Option.{option_map_or}
 use Rattle.kb_class.specs.declared.ids.MethodId.{MethodId}
 use Rattle.kb_class.specs.declared.members.MethodInfo.{MethodInfo}
 use Rattle.kb_class.specs.Members.{is_static}
-use Rattle.kb_link.specs.World.{World}
+use Rattle.kb_classes.specs.World.{World}
 use Rattle.kb_semantics.specs.Config.{info_of}
 use Rattle.kb_picture.specs.declared.picture.Origin.{Origin}
 use Rattle.kb_picture.specs.declared.picture.Origin.TheVariants.{Arg, Field, Element}

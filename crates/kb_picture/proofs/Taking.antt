@@ -6,11 +6,11 @@ use Rattle.kb_heap.specs.declared.heap.Value.{Value}
 use Rattle.kb_heap.specs.declared.heap.Value.TheVariants.{Ref}
 use Rattle.kb_heap.specs.declared.heap.Heap.{Heap}
 use Rattle.kb_heap.specs.declared.heap.Input.{Input}
-use Rattle.kb_link.proofs.Places.{get_kept, get_last, get_pushed}
-use Rattle.kb_link.specs.World.{World}
+use Rattle.kb_classes.proofs.Places.{get_kept, get_last, get_pushed}
+use Rattle.kb_classes.specs.World.{World}
 use Rattle.kb_names.specs.declared.types.ExactType.{ExactType}
 use Rattle.kb_terms.proofs.Entries.{slice_get-append-left}
-use Rattle.kb_picture.proofs.GrownShapes.{at_no_place, as_many, locs_many, slot_same, seen_places, choice_places, new_place, seen_each}
+use Rattle.kb_picture.proofs.GrownShapes.{at_no_place, as_many, locs_many, slot_same, seen_places, choice_places, new_place, seen_there}
 use Rattle.kb_picture.proofs.PlaceLaws.{places_seen, places_object, places_loc}
 use Rattle.kb_picture.proofs.ShapeLaws.{named_exactly}
 use Rattle.kb_picture.specs.declared.choice.Choice.TheVariants as choices
@@ -30,7 +30,7 @@ use Rattle.kb_picture.specs.Growth.{after_read, with_open_loc, with_fresh}
 use Rattle.kb_picture.specs.Laws.{with_seen, object_placed_behind, loc_placed_behind}
 use Rattle.kb_picture.specs.Places.{slot_value, place_of}
 use Rattle.kb_picture.specs.Shapes.{HasShape, HoldEach, HoldsSeen, IsNoPlace, AreApart, IsSuch, Stands}
-use Rattle.kb_picture.specs.WellFormed.{IsSlot, IsSeenAs}
+use Rattle.kb_picture.specs.WellFormed.{IsPicture, IsSlot, IsSeenAs}
 
 -- ---- what is seen behind the others
 
@@ -91,6 +91,49 @@ pub record HoldsNew (input : Input) (places : List ℕ) (slot : Origin) (kind : 
   pub no_place : IsNoPlace places place
   pub such : IsSuch input.heap (record { kind = kind; length = len; origin = slot }) place
 
+-- the picture with the new object has its shape too
+module _ (world : World) (params : ℕ) (picture : Picture) (slot : Origin) (input : Input) (formed : IsPicture world params picture) (shape : HasShape picture input) where
+  many_placed : length shape.places.objects ≡ length picture.objects
+  many_placed = as_many picture input shape.places shape.placed
+
+  pub last_place : (place : ℕ) → slice_get (shape.places.objects ++ place ∷ []) (length picture.objects) ≡ Some place
+  last_place place = ap (slice_get (shape.places.objects ++ place ∷ [])) (sym many_placed) ∙ get_last shape.places.objects place
+
+  pub object_forth : (kind : ExactType) (len : Length) → ((of : Origin) → IsBeyond picture of → ⊥) → HoldsNew input shape.places.objects slot kind len → HasShape (with_fresh picture slot kind len) input
+  unfolding place_of
+  object_forth kind len inside new = record {
+    places = record { objects = shape.places.objects ++ new.place ∷ []; locs = shape.places.locs };
+    placed = places_object picture input shape.places object shape.placed ∙ ap (option_map (object_placed_behind shape.places)) place_is;
+    seen = hold_more world params picture input shape.places.objects new.place picture.seen many_placed (seen_there world params picture formed)
+        (λ n x at e. inside x.0 (inl (n, at ∙ ap (λ (s : Seen). Some (x.0, s)) e))) shape.seen;
+    apart = apart_more shape.places.objects new.place shape.apart new.no_place;
+    such = λ number place expected there at. such number place expected (get_pushed picture.objects object number expected there) at;
+    stands = λ number place loc there at. stands_more shape.places.objects new.place loc.standing place
+        (λ e. inside loc.origin (inr (number, there ∙ ap (λ (s : Standing). Some (record { origin = loc.origin; standing = s })) e)))
+        (shape.stands number place loc there at);
+  }
+    where
+      object : PicObject
+      object = record { kind = kind; length = len; origin = slot }
+
+      place_is : place_of input shape.places.objects slot ≡ Some new.place
+      place_is = (named_exactly input.heap (slot_value input shape.places.objects slot) new.place).1 (new.value, slice_get_within input.heap.objects new.place new.such.object new.such.object_is)
+
+      such : (number place : ℕ) (expected : PicObject) → (slice_get picture.objects number ≡ Some expected) ⊎ ((number ≡ length picture.objects) × (object ≡ expected))
+          → slice_get (shape.places.objects ++ new.place ∷ []) number ≡ Some place → IsSuch input.heap expected place
+      such number place expected (inl h) at =
+          let within : number < length picture.objects = slice_get_within picture.objects number expected h in
+          shape.such number place expected h (sym (slice_get-append-left shape.places.objects (new.place ∷ []) number (omega (arith, within, many_placed))) ∙ at)
+      such number place expected (inr h) at =
+          let same : Some new.place ≡ Some place = sym (last_place new.place) ∙ (ap (slice_get (shape.places.objects ++ new.place ∷ [])) (sym h.0) ∙ at) in
+          subst (λ (p : ℕ). IsSuch input.heap expected p) (same_Some new.place place same) (subst (λ (o : PicObject). IsSuch input.heap o new.place) h.1 new.such)
+
+  -- at these places
+  pub object_places : (kind : ExactType) (len : Length) (inside : (of : Origin) → IsBeyond picture of → ⊥) (new : HoldsNew input shape.places.objects slot kind len)
+      → (object_forth kind len inside new).places ≡ record { objects = shape.places.objects ++ new.place ∷ []; locs = shape.places.locs }
+  unfolding object_forth
+  object_places kind len inside new = refl
+
 module _ (world : World) (params : ℕ) (picture : Picture) (slot : Origin) (input : Input) (unread : IsUnread world params picture slot) (shape : HasShape picture input) where
   abbrev held : Option Value
   held = slot_value input shape.places.objects slot
@@ -135,41 +178,18 @@ module _ (world : World) (params : ℕ) (picture : Picture) (slot : Origin) (inp
       }
 
   pub fresh_forth : (kind : ExactType) (len : Length) → ((of : Origin) → IsBeyond picture of → ⊥) → HoldsNew input shape.places.objects slot kind len → HasShape (after_read picture slot (choices.Fresh kind len)) input
-  unfolding after_read place_of
-  fresh_forth kind len inside new = record {
-    places = record { objects = shape.places.objects ++ new.place ∷ []; locs = shape.places.locs };
-    placed = places_seen (with_fresh picture slot kind len) input (slot, how) ∙ (places_object picture input shape.places object shape.placed ∙ ap (option_map (object_placed_behind shape.places)) place_is);
-    seen = hold_behind input (shape.places.objects ++ new.place ∷ []) picture.seen slot how
-        (hold_more world params picture input shape.places.objects new.place picture.seen many (seen_each world params picture slot input unread)
-        (λ n x at e. inside x.0 (inl (n, at ∙ ap (λ (s : Seen). Some (x.0, s)) e))) shape.seen)
-        (new.place, last_place, slot_same world params picture.objects input shape.places.objects (new.place ∷ []) slot many unread.there ∙ new.value);
-    apart = apart_more shape.places.objects new.place shape.apart new.no_place;
-    such = λ number place expected there at. such number place expected (get_pushed picture.objects object number expected there) at;
-    stands = λ number place loc there at. stands_more shape.places.objects new.place loc.standing place
-        (λ e. inside loc.origin (inr (number, there ∙ ap (λ (s : Standing). Some (record { origin = loc.origin; standing = s })) e)))
-        (shape.stands number place loc there at);
-  }
-    where
-      how : Seen
-      how = seens.Obj (length picture.objects)
-
-      object : PicObject
-      object = record { kind = kind; length = len; origin = slot }
-
-      place_is : place_of input shape.places.objects slot ≡ Some new.place
-      place_is = (named_exactly input.heap held new.place).1 (new.value, slice_get_within input.heap.objects new.place new.such.object new.such.object_is)
-
-      last_place : slice_get (shape.places.objects ++ new.place ∷ []) (length picture.objects) ≡ Some new.place
-      last_place = ap (slice_get (shape.places.objects ++ new.place ∷ [])) (sym many) ∙ get_last shape.places.objects new.place
-
-      such : (number place : ℕ) (expected : PicObject) → (slice_get picture.objects number ≡ Some expected) ⊎ ((number ≡ length picture.objects) × (object ≡ expected))
-          → slice_get (shape.places.objects ++ new.place ∷ []) number ≡ Some place → IsSuch input.heap expected place
-      such number place expected (inl h) at =
-          let within : number < length picture.objects = slice_get_within picture.objects number expected h in
-          shape.such number place expected h (sym (slice_get-append-left shape.places.objects (new.place ∷ []) number (omega (arith, within, many))) ∙ at)
-      such number place expected (inr h) at =
-          let same : Some new.place ≡ Some place = sym last_place ∙ (ap (slice_get (shape.places.objects ++ new.place ∷ [])) (sym h.0) ∙ at) in
-          subst (λ (p : ℕ). IsSuch input.heap expected p) (same_Some new.place place same) (subst (λ (o : PicObject). IsSuch input.heap o new.place) h.1 new.such)
+  unfolding after_read object_forth
+  fresh_forth kind len inside new =
+      let base : HasShape (with_fresh picture slot kind len) input = object_forth world params picture slot input unread.formed shape kind len inside new in
+      record {
+        places = base.places;
+        placed = places_seen (with_fresh picture slot kind len) input (slot, seens.Obj (length picture.objects)) ∙ base.placed;
+        seen = hold_behind input base.places.objects picture.seen slot (seens.Obj (length picture.objects)) base.seen
+            (new.place, last_place world params picture slot input unread.formed shape new.place, slot_same world params picture.objects input shape.places.objects (new.place ∷ []) slot many unread.there ∙ new.value);
+        apart = base.apart;
+        such = base.such;
+        stands = base.stands;
+      }
 
   -- a location
   pub location_forth : (place : ℕ) → held ≡ Some (Ref place) → place < length input.heap.objects → HasShape (after_read picture slot choices.Location) input

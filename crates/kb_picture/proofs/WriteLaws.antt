@@ -7,7 +7,7 @@ use Rattle.kb_heap.specs.declared.heap.Object.{Object}
 use Rattle.kb_heap.specs.declared.heap.Heap.{Heap}
 use Rattle.kb_heap.specs.declared.heap.Input.{Input}
 use Rattle.kb_heap.specs.Heap.{object_at, value_at, object_with, with_object_at, with_value}
-use Rattle.kb_link.specs.World.{World}
+use Rattle.kb_classes.specs.World.{World}
 use Rattle.kb_picture.specs.declared.picture.PlaceLists.{PlaceLists}
 use Rattle.kb_picture.specs.declared.path.Path.{Path}
 use Rattle.kb_picture.specs.Endings.{Reading, reading_of}

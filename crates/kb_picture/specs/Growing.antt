@@ -7,8 +7,8 @@ use Rattle.kb_class.specs.declared.ids.MethodId.{MethodId}
 use Rattle.kb_class.specs.declared.members.MethodInfo.{MethodInfo}
 use Rattle.kb_class.specs.Members.{is_static}
 use Rattle.kb_heap.specs.declared.heap.Input.{Input}
-use Rattle.kb_link.specs.Subtypes.{fits}
-use Rattle.kb_link.specs.World.{World}
+use Rattle.kb_classes.specs.Subtypes.{fits}
+use Rattle.kb_classes.specs.World.{World}
 use Rattle.kb_names.specs.declared.types.ExactType.{ExactType}
 use Rattle.kb_names.specs.declared.types.JType.{JType}
 use Rattle.kb_semantics.specs.Config.{info_of}
@@ -21,6 +21,7 @@ use Rattle.kb_picture.specs.declared.picture.Length.{Length}
 use Rattle.kb_picture.specs.declared.picture.PicObject.{PicObject}
 use Rattle.kb_picture.specs.declared.picture.Picture.{Picture}
 use Rattle.kb_picture.specs.declared.picture.PlaceLists.{PlaceLists}
+use Rattle.kb_picture.specs.Finding.{IsFoundFirst}
 use Rattle.kb_picture.specs.Growth.{after_read, after_int_read}
 use Rattle.kb_picture.specs.Queries.{type_of_slot}
 use Rattle.kb_picture.specs.Shapes.{HasShape, IsNoPlace}
@@ -94,7 +95,10 @@ pub record PicturesGrow : Type 0 where
   -- it stays well-formed
   pub formed : (world : World) (params : ℕ) (picture : Picture) (slot : Origin) (choice : Choice) → IsUnread world params picture slot → IsChoiceIn picture choice
       → IsPicture world params (after_read picture slot choice)
-  -- and well-typed
+  -- what it sees was found first, where that was so
+  pub found : (world : World) (params : ℕ) (picture : Picture) (slot : Origin) (choice : Choice) → IsUnread world params picture slot → IsFoundFirst picture
+      → IsFoundFirst (after_read picture slot choice)
+  -- it stays well-typed
   pub types : (world : World) (id : MethodId) (picture : Picture) (slot : Origin) (choice : Choice) → (typed : IsWellTyped world id picture)
       → IsUnread world (params_of world typed.method) picture slot → IsChoiceFor world id picture slot choice → IsWellTyped world id (after_read picture slot choice)
   -- whoever has the shape had the one before
@@ -111,6 +115,7 @@ pub record PicturesGrow : Type 0 where
 -- Of a picture that grows by the first read of an int or a boolean the same.
 pub record PicturesGrowByInts : Type 0 where
   pub formed : (world : World) (params : ℕ) (picture : Picture) (slot : Origin) → IsUnread world params picture slot → IsPicture world params (after_int_read picture slot)
+  pub found : (world : World) (params : ℕ) (picture : Picture) (slot : Origin) → IsUnread world params picture slot → IsFoundFirst picture → IsFoundFirst (after_int_read picture slot)
   pub types : (world : World) (id : MethodId) (picture : Picture) (slot : Origin) → (typed : IsWellTyped world id picture)
       → IsUnread world (params_of world typed.method) picture slot → HoldsInt world id picture slot → IsWellTyped world id (after_int_read picture slot)
   pub shape : (picture : Picture) (slot : Origin) (input : Input) → HasShape (after_int_read picture slot) input → HasShape picture input

@@ -7,7 +7,7 @@ use Rattle.kb_blast.specs.Meaning.{listed_values, AreMet}
 use Rattle.kb_class.specs.declared.ids.MethodId.{MethodId}
 use Rattle.kb_heap.specs.declared.heap.Value.{Value}
 use Rattle.kb_heap.specs.declared.heap.Input.{Input}
-use Rattle.kb_link.specs.World.{World}
+use Rattle.kb_classes.specs.World.{World}
 use Rattle.kb_semantics.specs.Inputs.{IsTypeCorrect}
 use Rattle.kb_semantics.specs.Operands.{int_of}
 use Rattle.kb_picture.specs.declared.picture.Seen.{Seen}

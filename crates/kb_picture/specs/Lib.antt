@@ -11,6 +11,9 @@ pub mod Queries
 pub mod Depths
 pub mod Laws
 pub mod Exactly
+pub mod Finding
 pub mod Growth
 pub mod WellTyped
 pub mod Growing
+pub mod Accesses
+pub mod Examples

@@ -12,7 +12,7 @@ use Rattle.kb_heap.specs.declared.heap.Value.{Value}
 use Rattle.kb_heap.specs.declared.heap.Value.TheVariants.{Ref}
 use Rattle.kb_heap.specs.declared.heap.Object.{Object}
 use Rattle.kb_heap.specs.declared.heap.Input.{Input}
-use Rattle.kb_link.specs.World.{World}
+use Rattle.kb_classes.specs.World.{World}
 use Rattle.kb_names.specs.declared.types.ExactType.{ExactType}
 use Rattle.kb_names.specs.declared.types.ExactType.TheVariants as exact
 use Rattle.kb_semantics.specs.Config.{info_of}
@@ -114,16 +114,6 @@ pub record IsBound (picture : Picture) (slot : Origin) (number : ℕ) : Type 0 w
 abbrev pub LeadsTo : Picture → Origin → ℕ → Type 0
 LeadsTo picture slot number = Has picture.seen (slot, seens.Obj number) ⊎ IsBound picture slot number
 
--- one of these slots leads to the object
-abbrev pub IsFound : Picture → List Origin → ℕ → Type 0
-IsFound picture before number = (slot : Origin) × Has before slot × LeadsTo picture slot number
-
--- an object is found before its slots are read: a slot that was read before leads to it
-abbrev pub IsFoundIn : Picture → List Origin → Origin → Type 0
-IsFoundIn picture before (Arg number) = Unit {0}
-IsFoundIn picture before (Field number slot) = IsFound picture before number
-IsFoundIn picture before (Element number index) = IsFound picture before number
-
 -- an array has a length, and nothing else has
 abbrev pub IsLengthOf : ExactType → Length → Type 0
 IsLengthOf (exact.Class name) Plain = Unit {0}
@@ -134,9 +124,8 @@ IsLengthOf (exact.Array component) Plain = ⊥
 
 -- A picture of the inputs of a method with so many arguments.
 pub record IsPicture (world : World) (params : ℕ) (picture : Picture) : Type 0 where
-  -- a slot that is seen is there, and was found before it was read; none is seen twice
-  pub slots : (i : ℕ) (slot : Origin) → slice_get (slots_seen picture) i ≡ Some slot
-      → IsSlot world params picture.objects slot × IsFoundIn picture (take i (slots_seen picture)) slot
+  -- a slot that is seen is there; none is seen twice
+  pub slots : (i : ℕ) (slot : Origin) → slice_get (slots_seen picture) i ≡ Some slot → IsSlot world params picture.objects slot
   pub once : (i j : ℕ) (slot : Origin) → slice_get (slots_seen picture) i ≡ Some slot → slice_get (slots_seen picture) j ≡ Some slot → i ≡ j
   pub seen : (i : ℕ) (slot : Origin × Seen) → slice_get picture.seen i ≡ Some slot → IsSeenAs picture slot.1
   -- variables and locations are numbered in the order of reading, so that no two slots are seen as one of them

@@ -1,12 +1,13 @@
 //! A picture that grows by what a run reads.
 ghost use Rattle.std.specs.Prelude.{◌≡◌, ◌+◌, [], length, IfOk, OnOk};
 ghost use Rattle.std.specs.List.{cons_option};
-ghost use Rattle.kb_picture.specs.Growth.{after_int_read};
+ghost use Rattle.kb_picture.specs.Growth.{after_int_read, with_fresh_at, with_standing};
 ghost use Rattle.kb_picture.specs.Laws.{with_loc, with_object, with_seen};
 ghost use Rattle.kb_picture.specs.WellFormed.{variable_seen};
 
 use crate::NoMemory;
-use crate::picture::{Origin, PicLoc, PicObject, Picture, Seen};
+use crate::picture::{Length, Origin, PicLoc, PicObject, Picture, Seen, Standing};
+use kb_names::ExactType;
 use std::alloc::Global;
 use std::marker::Model;
 
@@ -86,12 +87,46 @@ impl GrowingPicture {
         Ok(())
     }
 
+    /// Lets the location of that number stand so; its origin stays. One that is not there is left out. It takes constant time.
+    pub fn set_standing(&mut self, number: u32, standing: Standing)
+        ensures { self.new ≡ with_standing self.old number standing }
+    {
+        let Some(loc) = self.picture.locs.as_slice().get(number as usize) else {
+            return;
+        };
+        let bound = PicLoc {
+            origin: loc.origin,
+            standing,
+        };
+        self.picture.locs.set(number as usize, bound);
+    }
+
     /// Adds an object.
     pub fn add_object(&mut self, object: PicObject) -> Result<(), NoMemory>
         ensures { OnOk result (self.new ≡ with_object self.old object) }
     {
         self.picture.objects.push(object)?;
         Ok(())
+    }
+
+    /// Adds an object that is found where the location of that number was read. Of one that is not there none is found.
+    pub fn add_object_at(
+        &mut self,
+        number: u32,
+        kind: ExactType,
+        length: Length,
+    ) -> Result<(), NoMemory>
+        ensures { OnOk result (self.new ≡ with_fresh_at self.old number kind length) }
+    {
+        let Some(loc) = self.picture.locs.as_slice().get(number as usize) else {
+            return Ok(());
+        };
+        let origin = loc.origin;
+        self.add_object(PicObject {
+            kind,
+            length,
+            origin,
+        })
     }
 }
 

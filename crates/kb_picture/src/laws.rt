@@ -1,5 +1,6 @@
 //! What holds of the places, the shapes and the instances of every picture and path. The functions do nothing: they carry the
 //! laws.
+ghost use Rattle.kb_picture.specs.Examples.{ExamplesAreFormed};
 ghost use Rattle.kb_picture.specs.Laws.{PlacesStay, OnePlaces, FrontsHaveInstances, DepthsAreChains, FinalHeapsAreWhole};
 
 /// A picture that grows keeps the places that it had. Each object and location that is new has the place to which its own
@@ -30,4 +31,10 @@ pub fn depths_are_chains()
 /// objects.
 pub fn final_heaps_are_whole()
     ensures { FinalHeapsAreWhole }
+{}
+
+/// The paths that stand in `specs/Examples.antt` are well-formed: on them locations are objects of the picture, open and beyond,
+/// and on one a slot stands before the one in which its object was found.
+pub fn examples_are_formed()
+    ensures { ExamplesAreFormed }
 {}

@@ -21,12 +21,13 @@ mod values;
 pub use choice::{Choice, Init};
 pub use ending::ending_at;
 pub use growing::GrowingPicture;
-pub use growth::{pictures_grow, pictures_grow_by_ints};
+pub use growth::{pictures_bind, pictures_grow, pictures_grow_by_ints};
 pub use instance::is_instance;
 pub use kb_rows::Row;
 pub use kb_terms::{Operand, Term};
 pub use laws::{
-    depths_are_chains, final_heaps_are_whole, fronts_have_instances, one_places, places_stay,
+    depths_are_chains, examples_are_formed, final_heaps_are_whole, fronts_have_instances,
+    one_places, places_stay,
 };
 pub use path::{Ended, Leaf, Made, Out, Path, SymEnding, Write};
 pub use picture::{Length, Origin, PicLoc, PicObject, Picture, PlaceLists, Seen, Standing};

@@ -4,8 +4,8 @@ use Rattle.std.specs.Fmt.{decimal, signed_decimal, digit_glyph}
 use Rattle.kb_names.specs.Escapes.{name_text}
 use Rattle.kb_names.specs.Targets.{target_text}
 use Rattle.kb_names.specs.declared.types.Target.{Target}
-use Rattle.kb_link.specs.declared.linking.What.{What}
-use Rattle.kb_link.specs.declared.linking.What.TheVariants as whats
+use Rattle.kb_classes.specs.declared.refusal.What.{What}
+use Rattle.kb_classes.specs.declared.refusal.What.TheVariants as whats
 use Rattle.kb_refusals.specs.Texts.{line}
 
 -- the line of a refusal in the class file of a number, of one at an offset in it, and of one at an entry that is named there

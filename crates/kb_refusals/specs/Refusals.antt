@@ -6,8 +6,8 @@ use Rattle.kb_classfile.specs.declared.refusal.ClassRefusal.TheVariants as class
 use Rattle.kb_code.specs.declared.refusal.CodeRefusal.{CodeRefusal}
 use Rattle.kb_code.specs.declared.refusal.CodeRefusal.TheVariants as codes_of
 use Rattle.kb_names.specs.Targets.{target_text}
-use Rattle.kb_link.specs.declared.linking.LinkRefusal.{LinkRefusal}
-use Rattle.kb_link.specs.declared.linking.LinkRefusal.TheVariants as links
+use Rattle.kb_classes.specs.declared.refusal.LinkRefusal.{LinkRefusal}
+use Rattle.kb_classes.specs.declared.refusal.LinkRefusal.TheVariants as links
 use Rattle.kb_words.specs.declared.orders.WordFault.{WordFault}
 use Rattle.kb_words.specs.declared.orders.WordFault.TheVariants as faults
 use Rattle.kb_refusals.specs.declared.refusal.Refusal.{Refusal}

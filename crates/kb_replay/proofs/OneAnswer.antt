@@ -2,10 +2,10 @@
 use Rattle.std.proofs.Common.{◌≡◌, ℕ, suc, List, [], ◌∷◌, ◌++◌, length, refl, sym, ◌∙◌, ap, subst}
 use Rattle.std.specs.List.{AllByRecursion}
 use Rattle.kb_class.specs.declared.ids.MethodId.{MethodId}
-use Rattle.kb_link.specs.declared.linking.LinkRefusal.{LinkRefusal}
+use Rattle.kb_classes.specs.declared.refusal.LinkRefusal.{LinkRefusal}
 use Rattle.kb_link.specs.Links.{IsLinked}
 use Rattle.kb_link.specs.Targets.{IsTargetOf}
-use Rattle.kb_link.specs.World.{World}
+use Rattle.kb_classes.specs.World.{World}
 use Rattle.kb_link.proofs.TargetLaws.{one_declared}
 use Rattle.kb_names.specs.declared.types.Target.{Target}
 use Rattle.kb_semantics.specs.Config.{Ended}

@@ -3,7 +3,7 @@ use Rattle.std.proofs.Common.{◌≡◌, List, [], ◌∷◌, map, refl, sym, ap
 use Rattle.std.specs.List.{All}
 use Rattle.std.proofs.lemmas.List.Elements.{All-nil, All-cons}
 use Rattle.kb_class.specs.declared.ids.MethodId.{MethodId}
-use Rattle.kb_link.specs.World.{World}
+use Rattle.kb_classes.specs.World.{World}
 use Rattle.kb_test.specs.declared.test_case.Test.{Test}
 use Rattle.kb_replay.specs.declared.replays.Replayed.{Replayed}
 use Rattle.kb_replay.specs.declared.workers.Assigned.{Assigned}

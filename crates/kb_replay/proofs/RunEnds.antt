@@ -18,9 +18,9 @@ use Rattle.kb_heap.specs.declared.heap.Object.{Object}
 use Rattle.kb_heap.specs.declared.heap.Heap.{Heap}
 use Rattle.kb_heap.specs.declared.heap.Input.{Input}
 use Rattle.kb_heap.specs.Heap.{object_at, object_with, with_object, with_object_at, with_value, literal}
-use Rattle.kb_link.specs.World.{World, type_entry_of}
-use Rattle.kb_link.specs.Subtypes.{fits}
-use Rattle.kb_world.specs.Lookup.{resolved_field, resolved_method, selected_special}
+use Rattle.kb_classes.specs.World.{World, type_entry_of}
+use Rattle.kb_classes.specs.Subtypes.{fits}
+use Rattle.kb_resolution.specs.Lookup.{resolved_field, resolved_method, selected_special}
 use Rattle.kb_world.specs.Calls.{is_without_file}
 use Rattle.kb_semantics.specs.Config.{Setting, Frame, Config, Ended, Outcome, Goes, Ends, has_room, info_of, instruction_at, local_of, result_of, with_local}
 use Rattle.kb_semantics.specs.Values.{kept, new_object, takes_component}

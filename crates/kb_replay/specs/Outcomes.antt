@@ -1,7 +1,7 @@
 -- What comes of the runs of tests.
 use Rattle.std.specs.Prelude.{◌≡◌}
 use Rattle.kb_class.specs.declared.ids.MethodId.{MethodId}
-use Rattle.kb_link.specs.World.{World}
+use Rattle.kb_classes.specs.World.{World}
 use Rattle.kb_test.specs.declared.test_case.Test.{Test}
 use Rattle.kb_replay.specs.declared.replays.Replayed.{Replayed}
 use Rattle.kb_replay.specs.declared.workers.Assigned.{Assigned}

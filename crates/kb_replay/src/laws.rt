@@ -2,7 +2,7 @@
 ghost use Rattle.std.specs.Prelude.{◌≡◌, List, length};
 ghost use Rattle.kb_class.specs.declared.ids.MethodId.{MethodId};
 ghost use Rattle.kb_link.specs.Links.{IsLinked};
-ghost use Rattle.kb_link.specs.World.{World};
+ghost use Rattle.kb_classes.specs.World.{World};
 ghost use Rattle.kb_test.specs.declared.test_case.Test.{Test};
 ghost use Rattle.kb_replay.specs.declared.checks.BadTest.{BadTest};
 ghost use Rattle.kb_replay.specs.declared.checks.ReplayStop.TheVariants.{NoMemory};

@@ -1,5 +1,5 @@
 -- The report by hand is a report.
-use Rattle.std.proofs.Common.{◌≡◌, ℕ, zero, suc, ◌<◌, ◌^◌, List, [], ◌∷◌, length, take, Option, Some, None, refl, sym, ap, ◌∙◌, arith, subst}
+use Rattle.std.proofs.Common.{◌≡◌, ℕ, zero, suc, ◌<◌, ◌^◌, List, [], ◌∷◌, length, Option, Some, None, refl, sym, ap, ◌∙◌, arith, subst}
 use Rattle.std.specs.Prelude.{pos, slice_get}
 use Rattle.std.specs.List.{AllByRecursion}
 use Rattle.std.specs.Int.{w32}
@@ -10,11 +10,11 @@ use Rattle.kb_class.specs.declared.ids.MethodId.{MethodId}
 use Rattle.kb_class.specs.declared.members.MethodInfo.{MethodInfo}
 use Rattle.kb_heap.specs.declared.heap.Value.{Value}
 use Rattle.kb_heap.specs.declared.heap.Value.TheVariants.{Int as IntValue, Ref}
-use Rattle.kb_link.specs.World.{World}
+use Rattle.kb_classes.specs.World.{World}
 use Rattle.kb_semantics.specs.Config.{info_of}
 use Rattle.kb_semantics.specs.Inputs.{argument_types}
 use Rattle.kb_terms.specs.declared.listing.Term.{Term}
-use Rattle.kb_picture.specs.WellFormed.{IsSlot, IsFoundIn, IsSeenAs, IsPicture, IsTermAt, AreTermsOf, IsOut, IsWithin, IsClosed, AreWrites, IsEnded, IsWellFormed, slots_seen}
+use Rattle.kb_picture.specs.WellFormed.{IsSlot, IsSeenAs, IsPicture, IsTermAt, AreTermsOf, IsOut, IsWithin, IsClosed, AreWrites, IsEnded, IsWellFormed, slots_seen}
 use Rattle.kb_picture.specs.Numbering.{met_from, met_below, roots_of, ended_outs}
 use Rattle.kb_picture.specs.declared.path.Out.{Out}
 use Rattle.kb_picture.specs.declared.path.Out.TheVariants.{Int as IntOut}
@@ -22,7 +22,7 @@ use Rattle.kb_picture.specs.declared.picture.Origin.{Origin}
 use Rattle.kb_picture.specs.declared.picture.Origin.TheVariants.{Arg}
 use Rattle.kb_picture.specs.declared.picture.Seen.{Seen}
 use Rattle.kb_picture.specs.declared.picture.Seen.TheVariants.{Int as SeenInt}
-use Rattle.kb_report.specs.Ranges.{InputFits, EndedFits, PathFits, ReportFits}
+use Rattle.kb_report_text.specs.Ranges.{InputFits, EndedFits, PathFits, ReportFits}
 use Rattle.kb_report_laws.specs.OneText.{IsReport}
 use Rattle.kb_report_laws.specs.Example.{example_picture, example_ended, example_path, example_report, ExampleIsReport}
 
@@ -32,10 +32,9 @@ apart : Arg 0 ≡ Arg 1 → ⊥
 apart e = cc
 
 module _ (world : World) where
-  slots : (i : ℕ) (slot : Origin) → slice_get (slots_seen example_picture) i ≡ Some slot
-      → IsSlot world 2 [] slot × IsFoundIn example_picture (take i (slots_seen example_picture)) slot
-  slots zero slot at = subst (λ (s : Origin). IsSlot world 2 [] s × IsFoundIn example_picture [] s) (same_Some (Arg 0) slot at) (omega arith, tt)
-  slots (suc zero) slot at = subst (λ (s : Origin). IsSlot world 2 [] s × IsFoundIn example_picture (Arg 0 ∷ []) s) (same_Some (Arg 1) slot at) (omega arith, tt)
+  slots : (i : ℕ) (slot : Origin) → slice_get (slots_seen example_picture) i ≡ Some slot → IsSlot world 2 [] slot
+  slots zero slot at = subst (IsSlot world 2 []) (same_Some (Arg 0) slot at) (omega arith)
+  slots (suc zero) slot at = subst (IsSlot world 2 []) (same_Some (Arg 1) slot at) (omega arith)
   slots (suc (suc i)) slot at = absurd cc
 
   once : (i j : ℕ) (slot : Origin) → slice_get (slots_seen example_picture) i ≡ Some slot → slice_get (slots_seen example_picture) j ≡ Some slot → i ≡ j

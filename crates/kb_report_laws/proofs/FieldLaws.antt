@@ -11,14 +11,14 @@ use Rattle.kb_order.specs.Order.{IsAbove}
 use Rattle.kb_class.specs.Class.{Class}
 use Rattle.kb_class.specs.Naming.{Has}
 use Rattle.kb_class.specs.declared.members.FieldInfo.{FieldInfo}
-use Rattle.kb_link.specs.World.{World, number_in, parent_in}
+use Rattle.kb_classes.specs.World.{World, number_in, parent_in}
 use Rattle.kb_link.specs.Links.{IsLinked}
-use Rattle.kb_link.specs.Rules.{HaveDifferentFields, HaveNoCircle}
-use Rattle.kb_link.specs.Slots.{Declared, has_slot, slot_of, numbered, slots_among, own_slots_there, own_slots_at, slots_of}
-use Rattle.kb_link.specs.Subtypes.{direct_supers, AreChains}
-use Rattle.kb_link.specs.declared.slots.FieldSlot.{FieldSlot}
+use Rattle.kb_classes.specs.Rules.{HaveDifferentFields, HaveNoCircle}
+use Rattle.kb_classes.specs.Slots.{Declared, has_slot, slot_of, numbered, slots_among, own_slots_there, own_slots_at, slots_of}
+use Rattle.kb_classes.specs.Subtypes.{direct_supers, AreChains}
+use Rattle.kb_classes.specs.declared.slots.FieldSlot.{FieldSlot}
 use Rattle.kb_link.proofs.Above.{supers_complete, direct_many, parent_above}
-use Rattle.kb_link.proofs.Named.{number_inside}
+use Rattle.kb_classes.proofs.Named.{number_inside}
 use Rattle.kb_link.proofs.Loaded.{there_below}
 use Rattle.kb_semantics.specs.Values.{slots_of_class}
 
@@ -216,7 +216,7 @@ module _ (classes : List Class) (chains : List (List ℕ)) (are : AreChains clas
       itself = ([], refl)
 
       go : ((n : ℕ) (c : Class) → slice_get classes n ≡ Some c → slice_index_or chains n [] ≡ rest → IsGood n rest)
-          → (o : Option ℕ) → parent_in classes class ≡ o → Rattle.kb_link.specs.Subtypes.IsChain chains number o (slice_index_or chains number []) → IsGood number (first ∷ rest)
+          → (o : Option ℕ) → parent_in classes class ≡ o → Rattle.kb_classes.specs.Subtypes.IsChain chains number o (slice_index_or chains number []) → IsGood number (first ∷ rest)
       go again None parent chain =
           let whole : number ∷ [] ≡ first ∷ rest = sym chain ∙ is in
           subst (IsGood number) whole ((tt, tt), (itself, tt))

@@ -1,5 +1,3 @@
-pub mod Lacking
-pub mod NameLaws
 pub mod Reading
 pub mod FieldLaws
 pub mod WordLaws

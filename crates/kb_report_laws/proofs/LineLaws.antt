@@ -15,7 +15,7 @@ use Rattle.kb_heap.specs.declared.bounds.Bound.TheVariants.{K, Array as ArrayBou
 use Rattle.kb_heap.specs.declared.ending.Place.{Place}
 use Rattle.kb_heap.specs.declared.heap.Value.{Value}
 use Rattle.kb_heap.specs.declared.heap.Object.{Object}
-use Rattle.kb_link.specs.World.{World}
+use Rattle.kb_classes.specs.World.{World}
 use Rattle.kb_link.specs.Links.{IsLinked}
 use Rattle.kb_terms.specs.declared.listing.Operand.{Operand}
 use Rattle.kb_terms.specs.declared.listing.Term.{Term}
@@ -31,15 +31,19 @@ use Rattle.kb_picture.specs.declared.picture.Origin.{Origin}
 use Rattle.kb_picture.specs.declared.picture.PicLoc.{PicLoc}
 use Rattle.kb_picture.specs.declared.picture.PicObject.{PicObject}
 use Rattle.kb_picture.specs.declared.picture.Seen.{Seen}
-use Rattle.kb_path_words.specs.Words.{exact_text, place_text, bound_name, seen_text, standing_text, length_text, term_text, operand_text, second_text, out_text, value_text}
-use Rattle.kb_report.specs.Slots.{slot_text}
+use Rattle.kb_heap_words.specs.Words.{exact_text, place_text, bound_name}
+use Rattle.kb_path_words.specs.Words.{seen_text, standing_text, length_text, term_text, operand_text, second_text, out_text, value_text}
+use Rattle.kb_report_text.specs.Slots.{slot_text}
 use Rattle.kb_path_words.specs.Lines.{spaced, further_decisions, decisions_text, ending_line}
-use Rattle.kb_report.specs.Blocks.{path_line, see_line, loc_line, obj_line, let_line, when_line, set_line, new_line, arg_line, in_line}
+use Rattle.kb_report_text.specs.Blocks.{path_line, see_line, loc_line, obj_line, let_line, when_line, set_line, new_line, arg_line, in_line}
 use Rattle.kb_terms.specs.Op.{op_name}
-use Rattle.kb_report.specs.Ranges.{IsSmall, IsCount, SlotFits, IsLocInRange, LengthFits, ObjectFits, IsTermInRange, SecondFits, ConditionFits, WriteFits, OutFits, ValueFits, MadeFits, InputObjectFits, EndingFits, PlaceFits}
-use Rattle.kb_report_laws.proofs.Lacking.{digits_lack, count_lacks, target_lacks, lacks_is, space, line_feed, dot}
-use Rattle.kb_report_laws.proofs.Reading.{same_seen, same_standing, same_out, same_value}
-use Rattle.kb_report_laws.proofs.WordLaws.{same_digits, same_exact, same_place, same_term, same_slot, kinds_of, exact_lacks, op_lacks, operand_lacks, out_lacks, value_lacks, seen_lacks, standing_lacks, slot_lacks}
+use Rattle.kb_path_words.specs.Ranges.{IsSmall, LengthFits, IsTermInRange, SecondFits, OutFits, ValueFits}
+use Rattle.kb_report_text.specs.Ranges.{IsCount, SlotFits, IsLocInRange, ObjectFits, ConditionFits, WriteFits, MadeFits, InputObjectFits, EndingFits, PlaceFits}
+use Rattle.kb_heap_words.proofs.Lacking.{digits_lack, count_lacks, target_lacks, lacks_is, space, line_feed, dot}
+use Rattle.kb_path_words.proofs.ReadBack.{same_seen, same_standing, same_out, same_value}
+use Rattle.kb_heap_words.proofs.WordLaws.{place_lacks, same_digits, same_exact, same_place, exact_lacks}
+use Rattle.kb_path_words.proofs.WordLaws.{same_term, op_lacks, operand_lacks, out_lacks, value_lacks, seen_lacks, standing_lacks}
+use Rattle.kb_report_laws.proofs.WordLaws.{same_slot, kinds_of, slot_lacks}
 use Rattle.kb_report_laws.proofs.Sections.{unlike, same_words, spaced_lacks, beginning}
 
 -- ---- decisions
@@ -338,16 +342,12 @@ same_ending (IllTyped a) (Returned (Some b)) p q e = absurd (unlike 105 114 (ome
 same_ending (IllTyped a) (Threw b) p q e = absurd (unlike 105 116 (omega arith) (ap (λ (l : List ℕ). slice_index l 0) e))
 same_ending (IllTyped a) (IllTyped b) p q e = ap (λ (place : Place). IllTyped place) (same_place a b p q (same_behind (codes "illtyped ") (place_text a) (place_text b) e))
 
-place_lacks : (place : Place) → PlaceFits place → Lacks 10 (place_text place)
-unfolding place_text
-place_lacks place fits = Lacks-++ 10 (target_text place.method) (codes " " ++ decimal place.at) (target_lacks 10 line_feed place.method) (omega arith, digits_lack 10 place.at line_feed.apart fits)
-
 pub ending_lacks : (ending : SymEnding) → EndingFits ending → Lacks 10 (ending_line ending)
 unfolding ending_line
 ending_lacks (Returned None) fits = lacks_is 10 (codes "returns") refl
 ending_lacks (Returned (Some value)) fits = Lacks-++ 10 (codes "returns ") (out_text value) (lacks_is 10 (codes "returns ") refl) (out_lacks 10 line_feed value fits)
 ending_lacks (Threw value) fits = Lacks-++ 10 (codes "throws ") (out_text value) (lacks_is 10 (codes "throws ") refl) (out_lacks 10 line_feed value fits)
-ending_lacks (IllTyped place) fits = Lacks-++ 10 (codes "illtyped ") (place_text place) (lacks_is 10 (codes "illtyped ") refl) (place_lacks place fits)
+ending_lacks (IllTyped place) fits = Lacks-++ 10 (codes "illtyped ") (place_text place) (lacks_is 10 (codes "illtyped ") refl) (place_lacks 10 line_feed (omega arith) place fits)
 
 pub bound_lacks : (bound : Bound) → Lacks 10 (codes "cut " ++ bound_name bound)
 unfolding bound_name

@@ -10,7 +10,7 @@ use Rattle.kb_heap.specs.declared.heap.Value.{Value}
 use Rattle.kb_chain.specs.declared.log.Chain.{Chain}
 use Rattle.kb_chain.specs.declared.log.Log.{Log}
 use Rattle.kb_terms.specs.declared.listing.Term.{Term}
-use Rattle.kb_link.specs.World.{World}
+use Rattle.kb_classes.specs.World.{World}
 use Rattle.kb_link.specs.Links.{IsLinked}
 use Rattle.kb_log_text.specs.Lines.{learn_line, learn_lines, IsChain}
 use Rattle.kb_log_text.proofs.LogLaws.{same_chains}
@@ -30,11 +30,12 @@ use Rattle.kb_picture.specs.declared.picture.PicLoc.{PicLoc}
 use Rattle.kb_picture.specs.declared.picture.PicObject.{PicObject}
 use Rattle.kb_picture.specs.declared.picture.Picture.{Picture}
 use Rattle.kb_picture.specs.declared.picture.Seen.{Seen}
-use Rattle.kb_path_words.specs.Words.{bound_name}
+use Rattle.kb_heap_words.specs.Words.{bound_name}
 use Rattle.kb_path_words.specs.Lines.{numbered_lines, ending_line, leaf_line}
-use Rattle.kb_report.specs.Blocks.{path_line, see_line, loc_line, obj_line, picture_lines, let_line, when_line, set_line, new_line, arg_line, in_line, input_lines, further_lines, leaf_lines, path_lines}
-use Rattle.kb_report.specs.Ranges.{SlotFits, IsLocInRange, ObjectFits, IsTermInRange, ConditionFits, WriteFits, MadeFits, ValueFits, InputObjectFits, InputFits, EndedFits, LeafFits, PathFits}
-use Rattle.kb_report_laws.proofs.Reading.{same_bound}
+use Rattle.kb_report_text.specs.Blocks.{path_line, see_line, loc_line, obj_line, picture_lines, let_line, when_line, set_line, new_line, arg_line, in_line, input_lines, further_lines, leaf_lines, path_lines}
+use Rattle.kb_report_text.specs.Ranges.{SlotFits, IsLocInRange, ObjectFits, ConditionFits, WriteFits, MadeFits, InputObjectFits, InputFits, EndedFits, LeafFits, PathFits}
+use Rattle.kb_path_words.specs.Ranges.{IsTermInRange, ValueFits}
+use Rattle.kb_heap_words.proofs.WordLaws.{same_bound}
 use Rattle.kb_report_laws.proofs.FieldLaws.{all_at}
 use Rattle.kb_report_laws.proofs.WordLaws.{kinds_of, map_at, same_slot}
 use Rattle.kb_grammar.proofs.WordLaws.{same_behind}
@@ -225,7 +226,7 @@ module _ (world : World) where
   pub seen_there : (params : ℕ) (picture : Picture) → IsPicture world params picture → AllByRecursion SlotFits picture.seen → AllByRecursion (IsSeenThere world params picture.objects) picture.seen
   seen_there params picture is all =
       all_from (IsSeenThere world params picture.objects) picture.seen
-      (λ place slot at. ((is.slots place slot.0 (map_at (λ (s : Origin × Seen). s.0) picture.seen place slot at)).0, all_at SlotFits picture.seen place slot all at))
+      (λ place slot at. (is.slots place slot.0 (map_at (λ (s : Origin × Seen). s.0) picture.seen place slot at), all_at SlotFits picture.seen place slot all at))
 
   pub found_there : (params : ℕ) (picture : Picture) → IsPicture world params picture → AllByRecursion ObjectFits picture.objects → AllByRecursion (IsFoundThere world params picture.objects) picture.objects
   found_there params picture is all =

@@ -10,7 +10,7 @@ use Rattle.kb_grammar.proofs.LineLaws.{AreLines-++}
 use Rattle.kb_log_text.proofs.LogLaws.{same_lines, chains_are_lines}
 use Rattle.kb_heap.specs.declared.bounds.Bounds.{Bounds}
 use Rattle.kb_heap.specs.declared.heap.Input.{Input}
-use Rattle.kb_link.specs.World.{World}
+use Rattle.kb_classes.specs.World.{World}
 use Rattle.kb_link.specs.Links.{IsLinked}
 use Rattle.kb_names.specs.Targets.{target_text}
 use Rattle.kb_names.specs.declared.types.Target.{Target}
@@ -21,18 +21,19 @@ use Rattle.kb_picture.specs.declared.path.Leaf.{Leaf}
 use Rattle.kb_picture.specs.declared.path.Leaf.TheVariants.{Ended as EndedLeaf, Cut, Undecided, Open}
 use Rattle.kb_picture.specs.declared.path.Path.{Path}
 use Rattle.kb_picture.specs.declared.picture.PicObject.{PicObject}
-use Rattle.kb_report.specs.declared.report.Report.{Report}
-use Rattle.kb_report.specs.declared.kinds.LeafKind.{LeafKind}
-use Rattle.kb_report.specs.declared.kinds.LeafKind.TheVariants.{Ended as EndedKind, Cut as CutKind, Undecided as UndecidedKind, Open as OpenKind}
-use Rattle.kb_report.specs.Report.{init_name, title_line, target_line, run_bounds_text, bounds_text, limits_text, settings_line, head_lines, kind_of, same_kind, count_of, kinds_text, total_line, report_lines, report_text}
+use Rattle.kb_report_text.specs.declared.report.Report.{Report}
+use Rattle.kb_report_text.specs.declared.kinds.LeafKind.{LeafKind}
+use Rattle.kb_report_text.specs.declared.kinds.LeafKind.TheVariants.{Ended as EndedKind, Cut as CutKind, Undecided as UndecidedKind, Open as OpenKind}
+use Rattle.kb_report_text.specs.Report.{init_name, title_line, target_line, run_bounds_text, bounds_text, limits_text, settings_line, head_lines, kind_of, same_kind, count_of, kinds_text, total_line, report_lines, report_text}
 use Rattle.kb_path_words.specs.Lines.{numbered_lines, leaf_line}
-use Rattle.kb_report.specs.Blocks.{path_line, see_line, loc_line, obj_line, picture_lines, let_line, when_line, set_line, new_line, arg_line, in_line, input_lines, further_lines, leaf_lines, path_lines}
-use Rattle.kb_report.specs.Ranges.{IsSmall, ValueFits, InputObjectFits, InputFits, IsLocInRange, IsTermInRange, ConditionFits, MadeFits, LeafFits, PathFits, BoundsFit, ReportFits}
+use Rattle.kb_report_text.specs.Blocks.{path_line, see_line, loc_line, obj_line, picture_lines, let_line, when_line, set_line, new_line, arg_line, in_line, input_lines, further_lines, leaf_lines, path_lines}
+use Rattle.kb_path_words.specs.Ranges.{IsSmall, ValueFits, IsTermInRange}
+use Rattle.kb_report_text.specs.Ranges.{InputObjectFits, InputFits, IsLocInRange, ConditionFits, MadeFits, LeafFits, PathFits, BoundsFit, ReportFits}
 use Rattle.kb_report_laws.specs.OneText.{IsSound}
-use Rattle.kb_report_laws.proofs.Lacking.{digits_lack, count_lacks, target_lacks, lacks_is, space, line_feed}
+use Rattle.kb_heap_words.proofs.Lacking.{digits_lack, count_lacks, target_lacks, lacks_is, space, line_feed}
 use Rattle.kb_report_laws.proofs.Reading.{same_init}
-use Rattle.kb_report_laws.proofs.NameLaws.{same_target}
-use Rattle.kb_report_laws.proofs.WordLaws.{same_digits}
+use Rattle.kb_heap_words.proofs.NameLaws.{same_target}
+use Rattle.kb_heap_words.proofs.WordLaws.{same_digits}
 use Rattle.kb_report_laws.proofs.Sections.{heads, beginning, mapped_are_lines, numbered_are_lines, all_both}
 use Rattle.kb_report_laws.proofs.LineLaws.{path_line_lacks, IsSeenThere, IsFoundThere, IsWrittenThere, see_line_lacks, obj_line_lacks, loc_line_lacks, let_line_lacks, when_line_lacks, set_line_lacks, new_line_lacks, arg_line_lacks, in_line_lacks, ending_lacks, bound_lacks}
 use Rattle.kb_report_laws.proofs.PathLaws.{path_b, total_b, path_begins, IsNext, seen_there, found_there, LeafThere, leaf_there, block_is, same_block}

@@ -1,10 +1,9 @@
 -- The words of a line: each is that of one thing alone, and none has a space or a line feed in it.
-use Rattle.std.proofs.Common.{◌≡◌, ℕ, zero, suc, ◌≤◌, Bool, true, false, List, [], ◌∷◌, ◌++◌, map, Option, Some, None, refl, sym, ap, ◌∙◌, arith, subst, append-nil}
+use Rattle.std.proofs.Common.{◌≡◌, ℕ, zero, suc, ◌≤◌, Bool, true, false, List, [], ◌∷◌, ◌++◌, map, Option, Some, refl, sym, ap, ◌∙◌, arith, subst, append-nil}
 use Rattle.std.specs.Prelude.{slice_get, slice_index, nat_lt, codes, option_and_then}
 use Rattle.std.specs.Option.{option_map_or}
 use Rattle.std.specs.Str.{bytes_eq}
 use Rattle.std.specs.Fmt.{decimal}
-use Rattle.std.proofs.lemmas.Fmt.{decimal_injective}
 use Rattle.std.proofs.lemmas.Option.{same_Some}
 use Rattle.std.proofs.lemmas.Slice.Eq.{bytes_eq-Decides}
 use Rattle.std.proofs.lemmas.Bool.Decides.{nat_tests}
@@ -12,158 +11,30 @@ use Rattle.kb_grammar.specs.Lines.{Lacks}
 use Rattle.kb_grammar.proofs.WordLaws.{Lacks-++, same_cut, same_behind, not_lacking}
 use Rattle.kb_names.specs.Escapes.{name_text}
 use Rattle.kb_names.specs.Descriptors.{type_text}
-use Rattle.kb_names.specs.Targets.{target_text}
 use Rattle.kb_names.specs.declared.class_names.Spelling.TheVariants.{Escaped}
 use Rattle.kb_names.specs.declared.types.ExactType.{ExactType}
 use Rattle.kb_names.specs.declared.types.ExactType.TheVariants as exact
 use Rattle.kb_names.specs.declared.types.JType.{JType}
-use Rattle.kb_heap.specs.declared.ending.Place.{Place}
-use Rattle.kb_heap.specs.declared.heap.Value.{Value}
-use Rattle.kb_heap.specs.declared.heap.Value.TheVariants as values
 use Rattle.kb_class.specs.Class.{Class}
 use Rattle.kb_class.specs.declared.members.FieldInfo.{FieldInfo}
-use Rattle.kb_link.specs.World.{World}
+use Rattle.kb_classes.specs.World.{World}
 use Rattle.kb_link.specs.Links.{IsLinked}
-use Rattle.kb_link.specs.Rules.{name_of}
-use Rattle.kb_link.specs.declared.slots.FieldSlot.{FieldSlot}
+use Rattle.kb_classes.specs.Rules.{name_of}
+use Rattle.kb_classes.specs.declared.slots.FieldSlot.{FieldSlot}
 use Rattle.kb_link.proofs.Loaded.{there_below}
 use Rattle.kb_semantics.specs.Config.{class_name}
 use Rattle.kb_semantics.specs.Values.{slots_of_class}
-use Rattle.kb_terms.specs.Op.{op_name}
-use Rattle.kb_terms.specs.declared.op.Op.{Op}
-use Rattle.kb_terms.specs.declared.op.Op.TheVariants.{Add, Sub, Mul, Div, Rem, Neg, Shl, Shr, Ushr, And, Or, Xor, Byte, Char, Short, Eq, Lt, Ult}
-use Rattle.kb_terms.specs.declared.listing.Operand.{Operand}
-use Rattle.kb_terms.specs.declared.listing.Operand.TheVariants.{Const, Var, Term as TermOperand}
-use Rattle.kb_terms.specs.declared.listing.Term.{Term}
 use Rattle.kb_picture.specs.WellFormed.{HasSlot, IsSlot}
-use Rattle.kb_picture.specs.declared.path.Out.{Out}
-use Rattle.kb_picture.specs.declared.path.Out.TheVariants as outs
 use Rattle.kb_picture.specs.declared.picture.Origin.{Origin}
 use Rattle.kb_picture.specs.declared.picture.Origin.TheVariants.{Arg, Field, Element}
 use Rattle.kb_picture.specs.declared.picture.PicObject.{PicObject}
-use Rattle.kb_picture.specs.declared.picture.Seen.{Seen}
-use Rattle.kb_picture.specs.declared.picture.Seen.TheVariants as seens
-use Rattle.kb_picture.specs.declared.picture.Standing.{Standing}
-use Rattle.kb_picture.specs.declared.picture.Standing.TheVariants as standings
-use Rattle.kb_path_words.specs.Words.{exact_text, place_text, seen_text, standing_text, operand_text, second_text, term_text, out_text, value_text}
-use Rattle.kb_report.specs.Slots.{fields_named, has_namesake, kind_text, field_text, field_of_type, field_of, slot_text}
-use Rattle.kb_report.specs.Ranges.{IsSmall, OriginFits, IsSeenInRange, IsStandingInRange, IsOperandInRange, SecondFits, OutFits, ValueFits, PlaceFits, IsTermInRange}
-use Rattle.kb_report_laws.proofs.Lacking.{IsGap, digits_lack, signed_lacks, name_lacks, gap_in_name, type_lacks, target_lacks, above, are_high, high_lacks, space, dot, colon, bracket, bracket_end}
-use Rattle.kb_report_laws.proofs.NameLaws.{same_name, same_type, same_target, not_bracket}
-use Rattle.kb_report_laws.proofs.Reading.{same_operand, same_op}
+use Rattle.kb_report_text.specs.Slots.{fields_named, has_namesake, kind_text, field_text, field_of_type, field_of, slot_text}
+use Rattle.kb_path_words.specs.Ranges.{IsSmall}
+use Rattle.kb_report_text.specs.Ranges.{OriginFits}
+use Rattle.kb_heap_words.proofs.Lacking.{IsGap, digits_lack, name_lacks, gap_in_name, type_lacks, above, space, dot, colon, bracket, bracket_end}
+use Rattle.kb_heap_words.proofs.NameLaws.{same_name, same_type}
 use Rattle.kb_report_laws.proofs.Sections.{unlike}
-use Rattle.kb_report_laws.proofs.FieldLaws.{one_slot, slot_is_declared, all_at, only_one}
-
--- ---- numbers, types, methods
-
-pub same_digits : (m n : ℕ) → IsSmall m → IsSmall n → decimal m ≡ decimal n → m ≡ n
-same_digits m n p q e = decimal_injective m n (omega (arith, p)) (omega (arith, q)) e
-
-pub same_place : (one other : Place) → PlaceFits one → PlaceFits other → place_text one ≡ place_text other → one ≡ other
-unfolding place_text
-same_place one other p q e =
-    let parts = same_cut 32 (target_text one.method) (target_text other.method) (decimal one.at) (decimal other.at) (target_lacks 32 space one.method) (target_lacks 32 space other.method) e in
-    let method = same_target one.method other.method parts.0 in
-    let at = same_digits one.at other.at p q parts.1 in
-    λ i. record { method = method i; at = at i }
-
-pub same_exact : (one other : ExactType) → exact_text one ≡ exact_text other → one ≡ other
-unfolding exact_text
-same_exact (exact.Class one) (exact.Class other) e = ap (λ (name : List ℕ). exact.Class name) (same_name one other e)
-same_exact (exact.Class one) (exact.Array other) e = absurd (not_bracket one (type_text Escaped other) e)
-same_exact (exact.Array one) (exact.Class other) e = absurd (not_bracket other (type_text Escaped one) (sym e))
-same_exact (exact.Array one) (exact.Array other) e = ap (λ (type : JType). exact.Array type) (same_type one other (same_behind (codes "[") (type_text Escaped one) (type_text Escaped other) e))
-
--- ---- what the words lack
-
-op_high : (op : Op) → are_high (op_name op) ≡ true
-op_high Add = refl
-op_high Sub = refl
-op_high Mul = refl
-op_high Div = refl
-op_high Rem = refl
-op_high Neg = refl
-op_high Shl = refl
-op_high Shr = refl
-op_high Ushr = refl
-op_high And = refl
-op_high Or = refl
-op_high Xor = refl
-op_high Byte = refl
-op_high Char = refl
-op_high Short = refl
-op_high Eq = refl
-op_high Lt = refl
-op_high Ult = refl
-
-module _ (byte : ℕ) (gap : IsGap byte) where
-  lettered : (word : List ℕ) (number : ℕ) → are_high word ≡ true → IsSmall number → Lacks byte (word ++ decimal number)
-  lettered word number high small = Lacks-++ byte word (decimal number) (high_lacks byte gap.low word high) (digits_lack byte number gap.apart small)
-
-  pub exact_lacks : (kind : ExactType) → Lacks byte (exact_text kind)
-  unfolding exact_text
-  exact_lacks (exact.Class name) = gap_in_name byte gap name
-  exact_lacks (exact.Array component) = (above 91 byte gap.low (omega arith), type_lacks byte gap component)
-
-  pub op_lacks : (op : Op) → Lacks byte (op_name op)
-  op_lacks op = high_lacks byte gap.low (op_name op) (op_high op)
-
-  pub operand_lacks : (operand : Operand) → IsOperandInRange operand → Lacks byte (operand_text operand)
-  unfolding operand_text
-  operand_lacks (Const z) fits = signed_lacks byte z gap.apart fits
-  operand_lacks (Var number) fits = lettered (codes "v") number refl fits
-  operand_lacks (TermOperand number) fits = lettered (codes "t") number refl fits
-
-  pub out_lacks : (out : Out) → OutFits out → Lacks byte (out_text out)
-  unfolding out_text
-  out_lacks (outs.Int operand) fits = operand_lacks operand fits
-  out_lacks outs.Null fits = high_lacks byte gap.low (codes "null") refl
-  out_lacks (outs.Loc number) fits = lettered (codes "l") number refl fits
-  out_lacks (outs.Obj number) fits = lettered (codes "o") number refl fits
-  out_lacks (outs.Literal number) fits = lettered (codes "s") number refl fits
-  out_lacks (outs.New number) fits = lettered (codes "n") number refl fits
-
-  pub value_lacks : (value : Value) → ValueFits value → Lacks byte (value_text value)
-  unfolding value_text
-  value_lacks (values.Int z) fits = signed_lacks byte z gap.apart fits
-  value_lacks values.Null fits = high_lacks byte gap.low (codes "null") refl
-  value_lacks (values.Ref object) fits = lettered (codes "i") object refl fits
-
-  pub seen_lacks : (seen : Seen) → IsSeenInRange seen → Lacks byte (seen_text seen)
-  unfolding seen_text
-  seen_lacks (seens.Int number) fits = lettered (codes "v") number refl fits
-  seen_lacks seens.Null fits = high_lacks byte gap.low (codes "null") refl
-  seen_lacks (seens.Loc number) fits = lettered (codes "l") number refl fits
-  seen_lacks (seens.Obj number) fits = lettered (codes "o") number refl fits
-  seen_lacks seens.Beyond fits = high_lacks byte gap.low (codes "beyond") refl
-
-  pub standing_lacks : (standing : Standing) → IsStandingInRange standing → Lacks byte (standing_text standing)
-  unfolding standing_text
-  standing_lacks standings.Open fits = high_lacks byte gap.low (codes "open") refl
-  standing_lacks (standings.Obj number) fits = lettered (codes "o") number refl fits
-  standing_lacks standings.Beyond fits = high_lacks byte gap.low (codes "beyond") refl
-
--- ---- terms
-
-same_operands : (left first : Operand) (right second : Option Operand) → IsOperandInRange left → IsOperandInRange first → SecondFits right → SecondFits second
-    → operand_text left ++ second_text right ≡ operand_text first ++ second_text second → (left ≡ first) × (right ≡ second)
-unfolding second_text
-same_operands left first None None p q h k e = (same_operand left first p q (sym (append-nil (operand_text left)) ∙ e ∙ append-nil (operand_text first)), refl)
-same_operands left first None (Some second) p q h k e =
-    absurd (not_lacking 32 (operand_text first) (operand_text second) (operand_text left) (operand_lacks 32 space left p) (sym e ∙ append-nil (operand_text left)))
-same_operands left first (Some right) None p q h k e =
-    absurd (not_lacking 32 (operand_text left) (operand_text right) (operand_text first) (operand_lacks 32 space first q) (e ∙ append-nil (operand_text first)))
-same_operands left first (Some right) (Some second) p q h k e =
-    let parts = same_cut 32 (operand_text left) (operand_text first) (operand_text right) (operand_text second) (operand_lacks 32 space left p) (operand_lacks 32 space first q) e in
-    (same_operand left first p q parts.0, ap (λ (o : Operand). Some o) (same_operand right second h k parts.1))
-
-pub same_term : (one other : Term) → IsTermInRange one → IsTermInRange other → term_text one ≡ term_text other → one ≡ other
-unfolding term_text
-same_term one other p q e =
-    let parts = same_cut 32 (op_name one.op) (op_name other.op) (operand_text one.left ++ second_text one.right) (operand_text other.left ++ second_text other.right) (op_lacks 32 space one.op) (op_lacks 32 space other.op) e in
-    let op = same_op one.op other.op parts.0 in
-    let operands = same_operands one.left other.left one.right other.right p.left q.left p.right q.right parts.1 in
-    λ i. record { op = op i; left = operands.0 i; right = operands.1 i }
+use Rattle.kb_report_laws.proofs.FieldLaws.{one_slot, slot_is_declared, only_one}
 
 -- ---- fields
 

@@ -4,7 +4,7 @@ use Rattle.std.specs.Prelude.{◌≡◌, pos, [], ◌∷◌, codes, length, Some
 use Rattle.kb_class.specs.declared.ids.MethodId.{MethodId}
 use Rattle.kb_class.specs.declared.members.MethodInfo.{MethodInfo}
 use Rattle.kb_heap.specs.declared.heap.Value.TheVariants.{Int as IntValue}
-use Rattle.kb_link.specs.World.{World}
+use Rattle.kb_classes.specs.World.{World}
 use Rattle.kb_names.specs.declared.types.JType.TheVariants.{Int as IntType}
 use Rattle.kb_semantics.specs.Config.{info_of}
 use Rattle.kb_semantics.specs.Inputs.{argument_types}
@@ -19,7 +19,7 @@ use Rattle.kb_picture.specs.declared.path.Path.{Path}
 use Rattle.kb_picture.specs.declared.picture.Origin.TheVariants.{Arg}
 use Rattle.kb_picture.specs.declared.picture.Picture.{Picture}
 use Rattle.kb_picture.specs.declared.picture.Seen.TheVariants.{Int as SeenInt}
-use Rattle.kb_report.specs.declared.report.Report.{Report}
+use Rattle.kb_report_text.specs.declared.report.Report.{Report}
 use Rattle.kb_report_laws.specs.OneText.{IsReport}
 
 abbrev pub example_picture : Picture

@@ -2,12 +2,12 @@
 use Rattle.std.specs.Prelude.{◌≡◌}
 use Rattle.std.specs.List.{AllByRecursion}
 use Rattle.kb_class.specs.declared.ids.MethodId.{MethodId}
-use Rattle.kb_link.specs.World.{World}
+use Rattle.kb_classes.specs.World.{World}
 use Rattle.kb_picture.specs.WellFormed.{IsWellFormed}
 use Rattle.kb_picture.specs.declared.path.Path.{Path}
-use Rattle.kb_report.specs.declared.report.Report.{Report}
-use Rattle.kb_report.specs.Report.{report_text}
-use Rattle.kb_report.specs.Ranges.{ReportFits}
+use Rattle.kb_report_text.specs.declared.report.Report.{Report}
+use Rattle.kb_report_text.specs.Report.{report_text}
+use Rattle.kb_report_text.specs.Ranges.{ReportFits}
 
 -- the path is well-formed for some method of the world
 pub record IsSound (world : World) (path : Path) : Type 0 where

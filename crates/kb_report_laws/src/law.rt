@@ -1,16 +1,16 @@
 //! What the texts of reports have in common.
 ghost use Rattle.std.specs.Prelude.{◌≡◌, IfOk};
 ghost use Rattle.std.specs.List.{AllByRecursion};
-ghost use Rattle.kb_link.specs.World.{World as PlainWorld};
+ghost use Rattle.kb_classes.specs.World.{World as PlainWorld};
 ghost use Rattle.kb_link.specs.Links.{IsLinked};
-ghost use Rattle.kb_report.specs.Ranges.{ReportFits};
-ghost use Rattle.kb_report.specs.Report.{report_text};
-ghost use Rattle.kb_report.specs.declared.report.Report.{Report as PlainReport};
+ghost use Rattle.kb_report_text.specs.Ranges.{ReportFits};
+ghost use Rattle.kb_report_text.specs.Report.{report_text};
+ghost use Rattle.kb_report_text.specs.declared.report.Report.{Report as PlainReport};
 ghost use Rattle.kb_report_laws.specs.Example.{ExampleIsReport};
 ghost use Rattle.kb_report_laws.specs.OneText.{IsSound, IsReport, HaveOwnTexts};
 
-use kb_report::{NoMemory, Report, report_text};
-use kb_world::World;
+use kb_report_text::{NoMemory, Report, report_text};
+use kb_semantics::World;
 use std::alloc::Global;
 
 /// In a linked world no two reports whose paths are well-formed have one text. The function does nothing: it carries the law.

@@ -1,7 +1,7 @@
 //! No two reports have one text.
 //!
 //! `specs/OneText.antt` has the law, `specs/Example.antt` a report of which it speaks. The ranges of numbers that it asks for
-//! are those of the types of the code: [`kb_report::report_text`] tells them of each report that it writes.
+//! are those of the types of the code: [`kb_report_text::report_text`] tells them of each report that it writes.
 #![tactic(auto)]
 
 mod law;

@@ -13,7 +13,7 @@ use Rattle.kb_heap.specs.declared.heap.Input.{Input}
 use Rattle.kb_heap.specs.declared.heap.Object.{Object}
 use Rattle.kb_heap.specs.declared.heap.Value.{Value}
 use Rattle.kb_heap.specs.declared.heap.Value.TheVariants.{Int, Null, Ref}
-use Rattle.kb_link.specs.World.{World}
+use Rattle.kb_classes.specs.World.{World}
 use Rattle.kb_names.specs.declared.types.ExactType.{ExactType}
 use Rattle.kb_names.specs.declared.types.Target.{Target}
 use Rattle.kb_names.specs.Targets.{IsTarget}
@@ -25,8 +25,9 @@ use Rattle.kb_picture.specs.declared.picture.PlaceLists.{PlaceLists}
 use Rattle.kb_picture.specs.Laws.{FinalHeapsAreWhole, HasWholeHeap, IsEndingWithin, form_of}
 use Rattle.kb_picture.specs.Places.{places_of}
 use Rattle.kb_picture.specs.WellFormed.{IsClosed, IsLeaf, IsWithin}
-use Rattle.kb_report.specs.declared.report.Report.{Report}
-use Rattle.kb_test_lines.specs.Lines.{IsExact, IsRunBounds}
+use Rattle.kb_report_text.specs.declared.report.Report.{Report}
+use Rattle.kb_heap_words.specs.Words.{IsExact}
+use Rattle.kb_test_lines.specs.Lines.{IsRunBounds}
 use Rattle.kb_test.specs.Tests.{AreObjects, AreValues, IsEnding, IsTest, IsValue, kinds_of, literal_objects}
 use Rattle.kb_test_laws.specs.Texts.{EndHasTexts, EndingHasText}
 use Rattle.kb_report_tests.specs.Tests.{IsCarried, literals_in, test_of}

@@ -15,7 +15,7 @@ use crate::ranges::tell_numbers;
 use kb_heap::{Ending, Heap, Input, Object};
 use kb_names::Target;
 use kb_picture::{Ended, Leaf, Path, ending_at, final_heaps_are_whole, places};
-use kb_report::Report;
+use kb_report_text::Report;
 use kb_rows::{Held, Row};
 use kb_test::{FinalHeap, Test, write_test};
 use kb_world::World;

@@ -8,14 +8,14 @@ use Rattle.kb_chain.specs.Index.{has_number}
 use Rattle.kb_chain.specs.declared.log.Chain.{Chain}
 use Rattle.kb_chain.proofs.LiteralLaws.{negated-negated}
 use Rattle.kb_chain.proofs.PropagationLaws.{all_negated-from, all_negated-at, has-others}
-use Rattle.kb_eliminate.specs.Trail.{Assigned, IsTrail, level_start, before_level}
-use Rattle.kb_eliminate.specs.Store.{IsJustified}
-use Rattle.kb_eliminate.specs.Base.{IsConflict}
+use Rattle.kb_propagate.specs.Trail.{Assigned, IsTrail, level_start, before_level}
+use Rattle.kb_propagate.specs.Store.{IsJustified}
+use Rattle.kb_propagate.specs.Base.{IsConflict}
 use Rattle.kb_sat.specs.Search.{IsLearned}
 use Rattle.kb_sat.specs.Analysis.{is_seen, IsLevels, AreFalseBefore, AreMarked, IsClean, MarksOthers, IsReached, ArePut}
 use Rattle.kb_sat.specs.declared.analysis.Levels.{Levels}
 use Rattle.kb_sat.specs.declared.analysis.Marks.{Marks}
-use Rattle.kb_eliminate.proofs.Places.{at_within, at_inside, has_at, at_has, at_same}
+use Rattle.kb_propagate.proofs.Places.{at_within, at_inside, has_at, at_has, at_same}
 use Rattle.kb_sat.proofs.MarkLaws.{IsOnce, at_has_taken, pending_none}
 use Rattle.kb_sat.proofs.HeldLaws.{not_before, has_fewer, held_start}
 use Rattle.kb_sat.proofs.LevelLaws.{level_done}
@@ -74,19 +74,24 @@ some_pending t levels row old new trail is clean marks h negates last = elim (ca
               ∙ (seen ∙ (ap (has row) (negated-negated m) ∙ i)))))
         ]
 
+-- a row that is not false has a literal
+pub some_open : (set : Literal → Bool) (row : List Literal) → all_negated set row ≡ false → 0 < length row
+some_open set [] e = absurd (false≢true (sym e))
+some_open set (x ∷ row) e = omega arith
+
 -- before any step
 pub reached_start : (all rows : List (List Literal)) (t : Assigned) (levels : Levels) (number : ℕ) (row : List Literal) (old new : Marks) → IsOnce t.literals → IsLevels t levels
-    → IsJustified all rows t → slice_get rows number ≡ Some row → all_negated (has t.literals) row ≡ true → IsClean t.vars old
+    → IsJustified all rows t → slice_get rows number ≡ Some row → 0 < length row → all_negated (has t.literals) row ≡ true → IsClean t.vars old
     → MarksOthers t.literals levels None row old.seen.items new.seen.items
     → IsReached all number [] t.literals levels.zero (length t.literals) new.seen.items []
-reached_start all rows t levels number row old new once is justified e negates clean marks =
+reached_start all rows t levels number row old new once is justified e some negates clean marks =
     let stored = stored_of all rows t levels is justified in
     let inside : number < length rows = at_inside rows number row e in
     let found = at_within all number (omega (arith, inside, stored.count)) in
     record {
       clause = found.0;
       derives = found.1;
-      held = held_start t.literals levels.zero new.seen.items row found.0 once (stored.each number found.0 row found.1 e) negates
+      held = held_start t.literals levels.zero new.seen.items row found.0 once (stored.each number found.0 row found.1 e some) negates
           (marks_row t.vars t.literals levels row old new clean marks);
     }
 

@@ -12,10 +12,10 @@ use Rattle.kb_chain.proofs.OrderLaws.{has-clause_of}
 use Rattle.kb_chain.proofs.PropagationLaws.{all_negated-from, all_negated-at, has-others, taken_part}
 use Rattle.kb_chain.proofs.ChainLaws.{resolved_with}
 use Rattle.kb_sat.specs.Analysis.{is_seen, IsHeld, IsReached}
-use Rattle.kb_eliminate.specs.Store.{IsRow, IsStored}
-use Rattle.kb_eliminate.specs.Trail.{IsReason}
-use Rattle.kb_eliminate.proofs.Places.{at_same, at_has}
-use Rattle.kb_eliminate.proofs.TrailLaws.{same_variable}
+use Rattle.kb_propagate.specs.Store.{IsRow, IsStored}
+use Rattle.kb_propagate.specs.Trail.{IsReason}
+use Rattle.kb_propagate.proofs.Places.{at_same, at_has}
+use Rattle.kb_propagate.proofs.TrailLaws.{same_variable}
 use Rattle.kb_sat.proofs.MarkLaws.{IsOnce, has_taken_at, at_has_taken}
 
 -- a literal of the trail is not among those before it
@@ -235,13 +235,13 @@ held_resolve literals low p seen later row clause side stored l once consistent 
 pub reached_resolve : (clauses rows : List (List Literal)) (number : ℕ) (steps : List (ℕ × ℕ)) (literals : List Literal) (low p : ℕ) (seen later : List Bool)
     (row stored : List Literal) (l : Literal) (c : ℕ) → IsOnce literals → ((m : Literal) → has literals m ≡ true → has literals (negated m) ≡ false)
     → slice_get literals p ≡ Some l → low ≤ p → is_seen seen l.variable ≡ true
-    → IsReason clauses (has (take p literals)) l c → IsStored (has (take low literals)) clauses rows → slice_get rows c ≡ Some stored
+    → IsReason clauses (has (take p literals)) l c → IsStored (has (take low literals)) clauses rows → slice_get rows c ≡ Some stored → 0 < length stored
     → ((q : ℕ) (m : Literal) → low ≤ q → q < p → slice_get literals q ≡ Some m
     → is_seen later m.variable ≡ (is_seen seen m.variable || has stored (negated m)))
     → IsReached clauses number steps literals low (p + 1) seen row → IsReached clauses number (steps ++ (l.variable, c) ∷ []) literals low p later row
-reached_resolve clauses rows number steps literals low p seen later row stored l c once consistent at above marked reason is stored_at marks h =
+reached_resolve clauses rows number steps literals low p seen later row stored l c once consistent at above marked reason is stored_at some marks h =
     let r = held_resolve literals low p seen later row h.clause reason.clause stored l once consistent at above marked reason.member reason.forced
-    (is.each c reason.clause stored reason.numbered stored_at) marks h.held in
+    (is.each c reason.clause stored reason.numbered stored_at some) marks h.held in
     record {
       clause = r.new;
       derives = fold-append (resolved clauses) (slice_get clauses number) steps ((l.variable, c) ∷ [])

@@ -11,18 +11,17 @@ use Rattle.kb_chain.proofs.LiteralLaws.{same-true, same_refl, has_head, negated-
 use Rattle.kb_chain.proofs.PropagationLaws.{IsPart, all_negated-at, has-others, taken_part, place_of-negated}
 use Rattle.kb_chain.proofs.LogLaws.{derived-push, EachEntry-push}
 use Rattle.kb_chain.proofs.LeastSets.{Misses-by}
-use Rattle.kb_eliminate.specs.Trail.{Assigned, IsTrail, level_zero, level_start, before_level, cut_back}
-use Rattle.kb_eliminate.specs.Store.{IsRow, IsJustified}
+use Rattle.kb_propagate.specs.Trail.{Assigned, IsTrail, level_zero, level_start, before_level, cut_back}
+use Rattle.kb_propagate.specs.Store.{IsRow}
 use Rattle.kb_sat.specs.Search.{IsLearned}
-use Rattle.kb_eliminate.specs.Watches.{Quiet, paired, put_pair}
-use Rattle.kb_eliminate.specs.Base.{IsBase, IsSecondLiteral}
-use Rattle.kb_eliminate.specs.declared.watch.Pair.{Pair}
-use Rattle.kb_eliminate.specs.declared.watch.Watch.{Watch}
-use Rattle.kb_eliminate.proofs.Places.{at_last, at_inside, at_has}
-use Rattle.kb_eliminate.proofs.TrailLaws.{length_taken, has_pushed, IsTrail-cut, start_taken}
-use Rattle.kb_eliminate.proofs.WatchLaws.{is_met-from, IsWatching-push, AllListed-push, AllAwake-push, Quiet-push, Quiet_more}
-use Rattle.kb_eliminate.proofs.JustifyLaws.{IsJustified-grow, pushed, IsJustified-push, IsJustified-cut, level_zero-cut, push_part}
-use Rattle.kb_eliminate.proofs.BaseLaws.{before_part, before_cut, cut_settled, closed_from, IsBase-cut}
+use Rattle.kb_propagate.specs.Watches.{Pair, Quiet, paired, put_pair}
+use Rattle.kb_propagate.specs.Base.{IsBase, IsSecondLiteral}
+use Rattle.kb_propagate.specs.declared.watch.Watch.{Watch}
+use Rattle.kb_propagate.proofs.Places.{some_in, at_last, at_inside, at_has}
+use Rattle.kb_propagate.proofs.TrailLaws.{length_taken, has_pushed, IsTrail-cut, start_taken}
+use Rattle.kb_propagate.proofs.WatchLaws.{is_met-from, IsWatching-push, AllListed-push, AllAwake-push, Quiet-push, Quiet_more}
+use Rattle.kb_propagate.proofs.JustifyLaws.{IsJustified-grow, pushed, IsJustified-push, IsJustified-cut, level_zero-cut, push_part}
+use Rattle.kb_propagate.proofs.BaseLaws.{before_part, before_cut, cut_settled, closed_from, IsBase-cut}
 
 -- a clause that is false, but for one literal before a level whose set is closed, is new
 pub IsNew-from : (clauses : List (List Literal)) (clause : List Literal) (x : Literal) (all set : Literal → Bool)
@@ -119,7 +118,7 @@ IsBase-learn formula entries rows pairs lists t whole s chain row level a b n h 
     let cut = IsBase-cut formula entries rows pairs lists t level whole s h lt in
     let zero_same = level_zero-cut t level h lt in
     let row_cut : IsRow (has (level_zero (cut_back t level))) row k.clause = subst (λ z. IsRow (has z) row k.clause) (sym zero_same) k.stored in
-    let justified = IsJustified-grow s.clauses rows (cut_back t level) k.clause row (IsJustified-cut s.clauses rows t level h s.justified lt) row_cut in
+    let justified = IsJustified-grow s.clauses rows (cut_back t level) k.clause row (IsJustified-cut s.clauses rows t level h s.justified lt) row_cut (some_in row a p.first) in
     let count : length pairs ≡ length rows = s.watching.count in
     let within : (l : Literal) → has row l ≡ true → place_of l < 2 * t.vars + 2 =
     λ l e. subst (λ z. place_of z < 2 * t.vars + 2) (negated-negated l) (place_of-negated (negated l) t.vars (h.within (negated l) (p.false_row l e))) in

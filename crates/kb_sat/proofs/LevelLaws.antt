@@ -2,12 +2,12 @@
 use Rattle.std.proofs.Common.{◌≡◌, ℕ, ◌+◌, ◌<◌, ◌≤◌, ◌==◌, List, [], ◌∷◌, ◌++◌, Bool, true, false, not, ◌&&◌, ◌||◌, nat_le, arith, refl, ap, sym, ◌∙◌, inl, inr, subst, length, set, Option, Some, slice_get}
 use Rattle.std.proofs.lemmas.Bool.{false≢true, cases_eq, cases_lt, le-leb, ne_eqb}
 use Rattle.kb_chain.specs.Literal.{Literal, has, negated}
-use Rattle.kb_eliminate.specs.Trail.{Assigned, IsTrail}
-use Rattle.kb_eliminate.specs.Store.{IsJustified}
+use Rattle.kb_propagate.specs.Trail.{Assigned, IsTrail}
+use Rattle.kb_propagate.specs.Store.{IsJustified}
 use Rattle.kb_sat.specs.Analysis.{is_seen, at_position, pending_below, IsLevels, AreMarked, MarksOthers, IsLastSeen, NoneSeen, IsReached}
 use Rattle.kb_sat.specs.declared.analysis.Levels.{Levels}
 use Rattle.kb_sat.specs.declared.analysis.Marks.{Marks}
-use Rattle.kb_eliminate.proofs.Places.{at_within, at_has}
+use Rattle.kb_propagate.proofs.Places.{at_within, at_has}
 use Rattle.kb_sat.proofs.MarkLaws.{IsOnce, at_position-is, seen_other, pending_none, pending_zero}
 use Rattle.kb_sat.proofs.MarkedLaws.{variable_inside, AreMarked-last}
 use Rattle.kb_sat.proofs.HeldLaws.{reached_skip, reached_keep, reached_resolve}
@@ -112,7 +112,7 @@ reached_step all rows t number steps levels end p seen cleared later stored l c 
     let below : p < end = last.below in
     subst (λ z. IsReached all number (steps ++ (z, c) ∷ []) t.literals levels.zero p later []) (sym same)
     (reached_resolve all rows number steps t.literals levels.zero p seen later [] stored l c once trail.consistent at low (last.marked l at)
-    (justified.reasons p c l at reason) (stored_of all rows t levels is justified) row
+    (justified.reasons p c l at reason) (stored_of all rows t levels is justified) row (justified.kept p c stored reason row)
     (λ q m ge lt e. marks q m e
     ∙ (joined_marks (is_seen cleared m.variable) (has stored (negated m)) (not (v == m.variable)) (nat_le levels.zero q)
     (ap not (ne_eqb v m.variable (λ w. (let i : p ≡ q = once p q l m at e (sym w ∙ same) in absurd (omega (arith, i, lt))))))

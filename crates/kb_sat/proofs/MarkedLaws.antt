@@ -9,11 +9,11 @@ use Rattle.kb_chain.proofs.LiteralLaws.{same-true, same_refl, negated-negated, h
 use Rattle.kb_chain.proofs.PropagationLaws.{taken_part}
 use Rattle.kb_chain.proofs.OrderLaws.{has_take-suc}
 use Rattle.kb_sat.specs.Analysis.{is_seen, is_pivot, at_position, pending_below, AreFalseBefore, AreMarked, MarksOthers, IsLastSeen, AreCovered}
-use Rattle.kb_eliminate.specs.Trail.{Assigned, IsTrail}
-use Rattle.kb_eliminate.specs.Tables.{IsDistinct}
+use Rattle.kb_propagate.specs.Trail.{Assigned, IsTrail}
+use Rattle.kb_propagate.specs.Tables.{IsDistinct}
 use Rattle.kb_sat.specs.declared.analysis.Levels.{Levels}
 use Rattle.kb_sat.specs.declared.analysis.Marks.{Marks}
-use Rattle.kb_eliminate.proofs.Places.{at_same, at_inside, at_has, at_within, get_or_at_place, at_get_or}
+use Rattle.kb_propagate.proofs.Places.{at_same, at_inside, at_has, at_within, get_or_at_place, at_get_or}
 use Rattle.kb_sat.proofs.MarkLaws.{IsOnce, IsOnce-from, has_taken_at, at_position-is, seen_set, seen_other, pending_same, pending_skip, pending_one, pending_marked}
 
 pub once_of : (t : Assigned) → IsTrail t → IsDistinct t.literals → IsOnce t.literals

@@ -7,12 +7,12 @@ use Rattle.std.specs.List.Sorted.{IsNonDecreasingBy}
 use Rattle.kb_chain.specs.Literal.{Literal, has, negated}
 use Rattle.kb_chain.specs.Index.{has_number}
 use Rattle.kb_chain.proofs.LiteralLaws.{negated-negated}
-use Rattle.kb_eliminate.specs.Trail.{Assigned, IsTrail}
-use Rattle.kb_eliminate.specs.Store.{IsJustified}
+use Rattle.kb_propagate.specs.Trail.{Assigned, IsTrail}
+use Rattle.kb_propagate.specs.Store.{IsJustified}
 use Rattle.kb_sat.specs.Analysis.{is_seen, at_position, pending_below, IsLevels, AreMarked, AreCovered, IsReached, IsClean, ArePut}
 use Rattle.kb_sat.specs.declared.analysis.Levels.{Levels}
 use Rattle.kb_sat.specs.declared.analysis.Marks.{Marks}
-use Rattle.kb_eliminate.proofs.Places.{at_same, at_within}
+use Rattle.kb_propagate.proofs.Places.{at_same, at_within}
 use Rattle.kb_sat.proofs.MarkLaws.{IsOnce, at_has_taken, at_position-is, seen_set, seen_other, pending_none}
 use Rattle.kb_sat.proofs.HeldLaws.{not_before, reached_skip, reached_keep, reached_resolve}
 use Rattle.kb_sat.proofs.LevelLaws.{others_same}
@@ -191,7 +191,7 @@ reached_away all rows t number steps levels end p seen row l c v trail once is j
     let stored = at_within rows c (reason_inside all rows t justified p c l at reason) in
     subst (λ z. IsReached all number (steps ++ (z, c) ∷ []) t.literals levels.zero p (set seen v false) row) (sym same)
     (reached_resolve all rows number steps t.literals levels.zero p seen (set seen v false) row stored.0 l c once trail.consistent at low marked
-    (justified.reasons p c l at reason) (stored_of all rows t levels is justified) stored.1
+    (justified.reasons p c l at reason) (stored_of all rows t levels is justified) stored.1 (justified.kept p c stored.0 reason stored.1)
     (λ q m ge lt e. others_same t.literals seen p l v once at same q m lt e
     ∙ covered_same (is_seen seen m.variable) (has stored.0 (negated m)) (λ h. known stored.0 stored.1 q m ge lt e h))
     (reached_skip all number steps t.literals levels.zero (p + 1) end seen row (omega (arith, low)) (omega (arith, inside))

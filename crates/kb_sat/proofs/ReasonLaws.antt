@@ -6,11 +6,11 @@ use Rattle.kb_chain.specs.Literal.{Literal, has, same, negated}
 use Rattle.kb_chain.specs.Propagation.{others}
 use Rattle.kb_chain.proofs.LiteralLaws.{same-true}
 use Rattle.kb_chain.proofs.PropagationLaws.{all_negated-at, has-others}
-use Rattle.kb_eliminate.specs.Trail.{Assigned, IsTrail, level_start, level_zero}
-use Rattle.kb_eliminate.specs.Store.{IsStored, IsJustified}
+use Rattle.kb_propagate.specs.Trail.{Assigned, IsTrail, level_start, level_zero}
+use Rattle.kb_propagate.specs.Store.{IsStored, IsJustified}
 use Rattle.kb_sat.specs.Analysis.{IsLevels, AreFalseBefore}
 use Rattle.kb_sat.specs.declared.analysis.Levels.{Levels}
-use Rattle.kb_eliminate.proofs.Places.{at_inside}
+use Rattle.kb_propagate.proofs.Places.{at_inside}
 
 pub front : {X : Type 0} (n : ℕ) (xs ys : List X) → n ≡ length xs → take n (xs ++ ys) ≡ xs
 front n xs ys e = ap (λ k. take k (xs ++ ys)) e ∙ take-append_seam xs ys
@@ -42,7 +42,7 @@ pub reason_false : (all rows : List (List Literal)) (t : Assigned) → IsJustifi
     → has (take p t.literals) (negated k) ≡ true
 reason_false all rows t h p c l row e f stored k i n =
     let r = h.reasons p c l e f in
-    let is = h.stored.each c r.clause row r.numbered stored in
+    let is = h.stored.each c r.clause row r.numbered stored (h.kept p c row f stored) in
     all_negated-at (has (take p t.literals)) (others l r.clause) r.forced k (has-others l r.clause k ∙ and_from _ _ (is.part k i) (ap not (not_same k l n)))
 
 pub reason_before : (all rows : List (List Literal)) (t : Assigned) → IsJustified all rows t → (p c : ℕ) (l : Literal) (row : List Literal) → slice_get t.literals p ≡ Some l

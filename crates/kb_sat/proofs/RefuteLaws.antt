@@ -14,13 +14,13 @@ use Rattle.kb_chain.specs.declared.log.Chain.{Chain}
 use Rattle.kb_chain.proofs.NeededLaws.{entry_of_same}
 use Rattle.kb_chain.proofs.LiteralLaws.{same-true, has_head}
 use Rattle.kb_chain.proofs.PropagationLaws.{all_negated-at, has-others, taken_part}
-use Rattle.kb_eliminate.specs.Trail.{Assigned, IsTrail, HasReasons}
-use Rattle.kb_eliminate.specs.Store.{IsRow, IsStored}
-use Rattle.kb_eliminate.specs.Base.{IsConflict}
+use Rattle.kb_propagate.specs.Trail.{Assigned, IsTrail, HasReasons}
+use Rattle.kb_propagate.specs.Store.{IsRow, IsStored}
+use Rattle.kb_propagate.specs.Base.{IsConflict}
 use Rattle.kb_sat.specs.Search.{IsRefuting}
 use Rattle.kb_sat.specs.Analysis.{is_seen, is_pivot, IsReached, IsLastSeen, NoneSeen, MayCite}
-use Rattle.kb_eliminate.proofs.Places.{at_has, at_inside, at_same}
-use Rattle.kb_eliminate.proofs.TrailLaws.{same_variable}
+use Rattle.kb_propagate.proofs.Places.{some_in, at_has, at_inside, at_same}
+use Rattle.kb_propagate.proofs.TrailLaws.{same_variable}
 use Rattle.kb_sat.proofs.MarkLaws.{IsOnce, seen_set, seen_other}
 use Rattle.kb_sat.proofs.MarkedLaws.{variable_inside}
 use Rattle.kb_sat.proofs.HeldLaws.{held_start, reached_skip, reached_resolve}
@@ -121,7 +121,7 @@ own_row low clause = record { part = λ l e. e; rest = λ l e n. absurd (false�
 own_rows : (low : Literal → Bool) (all : List (List Literal)) → IsStored low all all
 own_rows low all = record {
   count = refl;
-  each = λ k clause row e f. subst (λ z. IsRow low z clause) (at_same all k clause row e f) (own_row low clause);
+  each = λ k clause row e f some. subst (λ z. IsRow low z clause) (at_same all k clause row e f) (own_row low clause);
 }
 
 plain_marks : (a h : Bool) → a ≡ false → (a || (h && true)) ≡ h
@@ -160,7 +160,7 @@ refuted_step all t number steps end p seen later row l c v trail once reasons at
     let why = reasons p c l at reason in
     subst (λ z. IsReached all number (steps ++ (z, c) ∷ []) t.literals 0 p later []) (sym same)
     (reached_resolve all all number steps t.literals 0 p seen later [] row l c once trail.consistent at (omega arith) (last.marked l at) why
-    (own_rows (has (take 0 t.literals)) all) e
+    (own_rows (has (take 0 t.literals)) all) e (some_in row l (ap (λ z. has z l) (at_same all c row why.clause e why.numbered) ∙ why.member))
     (λ q m ge lt f. (
     let apart : v ≡ m.variable → ⊥ = λ w. (let i : p ≡ q = once p q l m at f (sym w ∙ same) in omega (arith, i, lt)) in
     marks m.variable

@@ -4,7 +4,7 @@ use Rattle.kb_chain.specs.Literal.{Literal, literal, has, negated}
 use Rattle.kb_chain.specs.Propagation.{all_negated}
 use Rattle.kb_chain.specs.Chains.{resolved}
 use Rattle.kb_chain.specs.Index.{has_number}
-use Rattle.kb_eliminate.specs.Trail.{Assigned, level_start}
+use Rattle.kb_propagate.specs.Trail.{Assigned, level_start}
 use Rattle.kb_sat.specs.declared.analysis.Levels.{Levels}
 use Rattle.kb_sat.specs.declared.analysis.Marks.{Marks}
 

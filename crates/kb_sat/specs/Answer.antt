@@ -4,7 +4,8 @@ use Rattle.kb_chain.specs.Cnf.{Cnf}
 use Rattle.kb_chain.specs.Clause.{Satisfies, assignment_of}
 use Rattle.kb_chain.specs.Chains.{IsRefutation}
 use Rattle.kb_chain.specs.Propagation.{IsFresh, UnitRefutes}
-use Rattle.kb_eliminate.specs.Base.{Stands, IsComplete, IsConflict, IsDoomed, IsReady}
+use Rattle.kb_propagate.specs.Base.{Stands, IsComplete, IsConflict, IsDoomed, IsReady}
+use Rattle.kb_propagate.specs.Rows.{rows_of}
 use Rattle.kb_sat.specs.Solver.{Equipped}
 use Rattle.kb_sat.specs.declared.search.Search.{Search}
 use Rattle.kb_sat.specs.declared.solver.Begun.{Begun}
@@ -54,7 +55,7 @@ EndedIs formula budget (Ended.Doomed search number) =
 EndedIs formula budget (Ended.Spent search number) =
     Stands search.base × (search.base.formula.now ≡ formula)
     × (search.base.whole ≡ true → (length search.base.entries ≡ budget) × (UnitRefutes formula.clauses → ⊥))
-    × IsConflict search.base.clauses search.base.trail number
+    × IsConflict (rows_of search.base.clauses) search.base.trail number
 
 -- the search at such an end
 abbrev pub at_end : Search → End → Ended

@@ -4,8 +4,8 @@ use Rattle.kb_chain.specs.Literal.{Literal, has, negated}
 use Rattle.kb_chain.specs.Propagation.{all_negated, others}
 use Rattle.kb_chain.specs.Chains.{entry_of}
 use Rattle.kb_chain.specs.declared.log.Chain.{Chain}
-use Rattle.kb_eliminate.specs.Trail.{Assigned, before_level, level_zero}
-use Rattle.kb_eliminate.specs.Store.{IsRow}
+use Rattle.kb_propagate.specs.Trail.{Assigned, before_level, level_zero}
+use Rattle.kb_propagate.specs.Store.{IsRow}
 
 -- the chain gives a clause with one literal of the last level, which is free again below that level and then the only one
 -- that is not false, as soon as the trail is cut back to that level below it at which the last of the others became false

@@ -1,7 +1,8 @@
 -- The state of a search.
 use Rattle.std.specs.Prelude.{◌≡◌, ℕ, ◌+◌, ◌*◌, ◌<◌, ◌≤◌, Bool, List, length}
-use Rattle.kb_eliminate.specs.Base.{Stands, IsReady, IsConflict, IsComplete}
-use Rattle.kb_eliminate.specs.Watches.{IsAwake}
+use Rattle.kb_propagate.specs.Base.{Stands, IsReady, IsConflict, IsComplete}
+use Rattle.kb_propagate.specs.Rows.{rows_of}
+use Rattle.kb_propagate.specs.Watches.{pairs_of, IsAwake}
 use Rattle.kb_sat.specs.Analysis.{IsClean}
 use Rattle.kb_sat.specs.declared.analysis.Marks.{Marks}
 use Rattle.kb_sat.specs.declared.search.Search.{Search}
@@ -34,7 +35,7 @@ pub record Keeps (old new : Search) : Type 0 where
 -- what a step of the search came to
 abbrev pub StepIs : Search → Search → Step → Type 0
 StepIs old new (Conflict number) =
-    IsConflict new.base.clauses new.base.trail number × IsAwake new.base.watches.pairs.items number
+    IsConflict (rows_of new.base.clauses) new.base.trail number × IsAwake (pairs_of new.base.clauses) number
 StepIs old new Complete = IsComplete new.base
 StepIs old new Decided =
     IsReady new.base × (length old.base.trail.literals < length new.base.trail.literals)

@@ -10,15 +10,16 @@ ghost use Rattle.kb_chain.specs.Propagation.{all_negated};
 ghost use Rattle.kb_chain.specs.Index.{has_number};
 ghost use Rattle.kb_chain.specs.Chains.{derived};
 ghost use Rattle.kb_chain.specs.Needed.{cites};
-ghost use Rattle.kb_eliminate.specs.Trail.{level_start, before_level, HasReasons};
-ghost use Rattle.kb_eliminate.specs.Store.{IsJustified};
-ghost use Rattle.kb_eliminate.specs.Base.{IsConflict};
+ghost use Rattle.kb_propagate.specs.Trail.{level_start, before_level, HasReasons};
+ghost use Rattle.kb_propagate.specs.Store.{IsJustified};
+ghost use Rattle.kb_propagate.specs.Rows.{rows_of};
+ghost use Rattle.kb_propagate.specs.Base.{IsConflict};
 ghost use Rattle.kb_sat.specs.Search.{IsLearned, IsRefuting};
 ghost use Rattle.kb_sat.specs.Analysis.{is_seen, is_pivot, AreFalseBefore, AreMarked, IsClean, MarksOthers, IsLevels, AreCovered, IsReached, IsLastSeen, NoneSeen, ArePut, MayCite, at_position};
 
 use crate::order::ActivityOrder;
 use kb_chain::{Chain, Formula, Lit, Row, Store, derive_needed};
-use kb_eliminate::{Clauses, NoMemory, Trail};
+use kb_propagate::{Clauses, NoMemory, Trail};
 use std::alloc::Global;
 
 /// What a conflict teaches: a clause by its chain, without the literals that are false at level 0. The first one becomes true
@@ -174,14 +175,14 @@ pub(crate) fn analyse(
     marks: &mut Marks,
     number: u32,
 ) -> Result<Learned, NoMemory>
-    requires conflict { IsConflict clauses.now trail.now number }
+    requires conflict { IsConflict (rows_of clauses.now) trail.now number }
     requires level { 0 < length trail.now.starts }
-    requires last { (row : List Literal) → slice_get clauses.now number ≡ Some row
+    requires last { (row : List Literal) → slice_get (rows_of clauses.now) number ≡ Some row
         → all_negated (has (before_level trail.now (length trail.now.starts - 1))) row ≡ false }
-    requires justified { (all : List (List Literal)) × IsJustified all clauses.now trail.now }
+    requires justified { (all : List (List Literal)) × IsJustified all (rows_of clauses.now) trail.now }
     requires clean { IsClean trail.now.vars marks.old }
     requires order { order.old ≡ trail.now.vars }
-    ensures learned { IfOk result (λ learned. (all : List (List Literal)) → IsJustified all clauses.now trail.now
+    ensures learned { IfOk result (λ learned. (all : List (List Literal)) → IsJustified all (rows_of clauses.now) trail.now
         → IsLearned all trail.now learned.chain learned.literals learned.level) }
     ensures clean { OnOk result (IsClean trail.now.vars marks.new) }
     ensures order { order.new ≡ order.old }
@@ -225,10 +226,10 @@ fn resolve_level(
     requires levels { IsLevels trail.now levels }
     requires marked { AreMarked trail.now.vars trail.now.literals levels (length trail.now.literals) marks.old }
     requires pending { 0 < marks.old.pending }
-    requires justified { (all : List (List Literal)) × IsJustified all clauses.now trail.now }
+    requires justified { (all : List (List Literal)) × IsJustified all (rows_of clauses.now) trail.now }
     requires order { order.old ≡ trail.now.vars }
     ensures point { IfOk result (λ point. (p : ℕ) × (levels.start ≤ p) × (slice_get trail.now.literals p ≡ Some point)) }
-    ensures reached { IfOk result (λ point. (all : List (List Literal)) (number : ℕ) → IsJustified all clauses.now trail.now
+    ensures reached { IfOk result (λ point. (all : List (List Literal)) (number : ℕ) → IsJustified all (rows_of clauses.now) trail.now
         → IsReached all number steps.old.items trail.now.literals levels.zero (length trail.now.literals) marks.old.seen.items []
         → IsReached all number steps.new.items trail.now.literals levels.zero levels.start marks.new.seen.items (negated point ∷ [])) }
     ensures marked { OnOk result (AreMarked trail.now.vars trail.now.literals levels levels.start marks.new) }
@@ -267,8 +268,8 @@ fn minimise(
 ) -> Result<Option<usize>, NoMemory>
     requires levels { IsLevels trail.now levels }
     requires marked { AreMarked trail.now.vars trail.now.literals levels levels.start marks.old }
-    requires justified { (all : List (List Literal)) × IsJustified all clauses.now trail.now }
-    ensures reached { OnOk result ((all : List (List Literal)) (number : ℕ) → IsJustified all clauses.now trail.now
+    requires justified { (all : List (List Literal)) × IsJustified all (rows_of clauses.now) trail.now }
+    ensures reached { OnOk result ((all : List (List Literal)) (number : ℕ) → IsJustified all (rows_of clauses.now) trail.now
         → IsReached all number steps.old.items trail.now.literals levels.zero levels.start marks.old.seen.items row.old.items
         → IsReached all number steps.new.items trail.now.literals levels.zero levels.zero marks.new.seen.items row.new.items) }
     ensures put { IfOk result (ArePut trail.now.literals levels row.old.items row.new.items) }
@@ -407,9 +408,9 @@ fn adds_nothing(
 ) -> Option<u32>
     requires table { length marks.now.seen.items ≡ trail.now.vars + 1 }
     requires inside { position < length trail.now.literals }
-    requires justified { (all : List (List Literal)) × IsJustified all clauses.now trail.now }
+    requires justified { (all : List (List Literal)) × IsJustified all (rows_of clauses.now) trail.now }
     ensures reason { IfSome result (λ number. slice_get trail.now.reasons position ≡ Some (Some number)) }
-    ensures covered { IfSome result (λ number. (row : List Literal) → slice_get clauses.now number ≡ Some row
+    ensures covered { IfSome result (λ number. (row : List Literal) → slice_get (rows_of clauses.now) number ≡ Some row
         → AreCovered trail.now.literals levels.zero marks.now.seen.items (at_position trail.now.literals position).variable row) }
 {
     let number = trail.reason(position)?;

@@ -1,13 +1,13 @@
 //! Clause database reduction: learned clauses of little use are let go (as in Glucose: Audemard and Simon, 2009). Which ones is
 //! free; that nothing relies on them any longer is under proof.
 ghost use Rattle.std.specs.Prelude.{◌≡◌, ◌<◌, length, OnOk};
-ghost use Rattle.kb_eliminate.specs.Base.{Stands, IsReady, Forgets};
+ghost use Rattle.kb_propagate.specs.Rows.{rows_of};
+ghost use Rattle.kb_propagate.specs.Base.{Stands, IsReady, Forgets};
 ghost use Rattle.kb_sat.specs.Solver.{Equipped};
 
 use crate::parameters::STAYING_LEVELS;
 use crate::search::Search;
-use kb_chain::Lit;
-use kb_eliminate::{NoMemory, Trail};
+use kb_propagate::NoMemory;
 use std::alloc::Global;
 
 /// A learned clause that may be let go.
@@ -34,13 +34,15 @@ pub(crate) fn forget(alloc: Global, search: &mut Search<'_>) -> Result<(), NoMem
     }
     candidates.sort_unstable_by_key(|candidate| (candidate.levels, candidate.length));
     let kept = candidates.len() - candidates.len() / 2;
-    let_all_go(search, &candidates[kept..]);
+    delete_all(search, &candidates[kept..]);
     search.base.purge();
     Ok(())
 }
 
 /// The learned clauses that may be let go.
-fn candidates(alloc: Global, search: &Search<'_>) -> Result<Vec<Candidate>, NoMemory> {
+fn candidates(alloc: Global, search: &Search<'_>) -> Result<Vec<Candidate>, NoMemory>
+    requires { Stands search.now.base }
+{
     let mut found = Vec::new(alloc);
     for number in 0..search.base.clauses.len() {
         if let Some(candidate) = as_candidate(search, number) {
@@ -52,17 +54,14 @@ fn candidates(alloc: Global, search: &Search<'_>) -> Result<Vec<Candidate>, NoMe
 
 /// The clause of this number, if it is one that may be let go.
 fn as_candidate(search: &Search<'_>, number: u32) -> Option<Candidate>
-    requires { number < length search.now.base.clauses }
+    requires stands { Stands search.now.base }
+    requires number { number < length (rows_of search.now.base.clauses) }
 {
     let rank = search.ranks.ranks.get(number as usize)?;
     if rank.used || rank.levels <= STAYING_LEVELS {
         return None;
     }
-    let pair = search.base.watches.pairs.get(number as usize)?;
-    if !pair.awake
-        || forces(&search.base.trail, number, pair.first)
-        || forces(&search.base.trail, number, pair.second)
-    {
+    if !search.base.clauses.is_awake(number) || search.base.is_reason(number) {
         return None;
     }
     Some(Candidate {
@@ -72,13 +71,8 @@ fn as_candidate(search: &Search<'_>, number: u32) -> Option<Candidate>
     })
 }
 
-/// Whether the clause of this number is the reason of a true literal.
-fn forces(trail: &Trail, number: u32, literal: Lit) -> bool {
-    trail.is_true(literal) && trail.reason(trail.position(literal)) == Some(number)
-}
-
-/// Lets clauses go.
-fn let_all_go(search: &mut Search<'_>, candidates: &[Candidate])
+/// Deletes clauses.
+fn delete_all(search: &mut Search<'_>, candidates: &[Candidate])
     requires stands { Stands search.old.base }
     requires equipped { Equipped search.old }
     requires ready { IsReady search.old.base }
@@ -86,6 +80,6 @@ fn let_all_go(search: &mut Search<'_>, candidates: &[Candidate])
     ensures forgets { Forgets search.old.base search.new.base }
 {
     for candidate in candidates {
-        search.base.let_go(candidate.number);
+        search.base.delete(candidate.number);
     }
 }

@@ -14,7 +14,7 @@ mod search;
 mod solver;
 
 pub use counts::Counts;
-pub use kb_eliminate::NoMemory;
+pub use kb_propagate::NoMemory;
 // What the search is free to do: for programs that show it.
 pub use order::ActivityOrder;
 pub use pace::Crowding;

@@ -6,7 +6,7 @@ ghost use Rattle.kb_sat.specs.Order.{HavePlaces};
 use crate::parameters::{
     ACTIVITY_FIRST, ACTIVITY_GROWTH, ACTIVITY_LEAST, ACTIVITY_LIMIT, ACTIVITY_SCALE,
 };
-use kb_eliminate::NoMemory;
+use kb_propagate::NoMemory;
 use std::alloc::Global;
 use std::marker::Model;
 

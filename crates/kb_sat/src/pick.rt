@@ -1,11 +1,11 @@
 //! The decision: the most active variable without a value, with the sign that it had last (phase saving: Pipatsrisawat and
 //! Darwiche, 2007). Free, but for this: a literal is found unless all variables have a value.
 ghost use Rattle.std.specs.Prelude.{◌≡◌, ℕ, ◌+◌, ◌<◌, ◌≤◌, length, IfSome, IfNone};
-ghost use Rattle.kb_eliminate.specs.Base.{HasNoValue, IsValued, AllAssigned};
+ghost use Rattle.kb_propagate.specs.Base.{HasNoValue, IsValued, AllAssigned};
 
 use crate::order::ActivityOrder;
 use kb_chain::Lit;
-use kb_eliminate::Trail;
+use kb_propagate::Trail;
 
 /// The literal to decide next: of the most active variable that has no value, with the sign that it had last; none where all
 /// variables have a value.

@@ -2,11 +2,11 @@
 //! 2009), and whether it was of use lately. Free.
 ghost use Rattle.std.specs.Prelude.{◌≡◌, ◌-◌, ◌<◌, ◌≤◌, true, length};
 ghost use Rattle.kb_chain.specs.Literal.{Literal, has, negated};
-ghost use Rattle.kb_eliminate.specs.Trail.{level_start};
+ghost use Rattle.kb_propagate.specs.Trail.{level_start};
 
 use crate::analysis::level_of;
 use kb_chain::{Chain, Lit};
-use kb_eliminate::{NoMemory, Trail};
+use kb_propagate::{NoMemory, Trail};
 use std::alloc::Global;
 
 /// What is known of a clause's use.

@@ -2,9 +2,10 @@
 //! jump back. That it stays within what the log derives is under proof; which literals it tries is free.
 ghost use Rattle.std.specs.Prelude.{◌≡◌, ℕ, ◌+◌, ◌*◌, ◌<◌, ◌≤◌, true, false, Some, [], ◌∷◌, ◌++◌, length, OnOk, IfOk, IfSome, IfNone};
 ghost use Rattle.kb_chain.specs.Literal.{Literal, has, negated, place_of};
-ghost use Rattle.kb_eliminate.specs.Trail.{TrailGrows, level_start, cut_back};
-ghost use Rattle.kb_eliminate.specs.Watches.{IsAwake, paired, put_pair};
-ghost use Rattle.kb_eliminate.specs.Base.{Stands, IsReady, IsConflict, IsComplete, IsPropagated, IsDoomed};
+ghost use Rattle.kb_propagate.specs.Trail.{TrailGrows, level_start, cut_back};
+ghost use Rattle.kb_propagate.specs.Rows.{rows_of, awake_clause};
+ghost use Rattle.kb_propagate.specs.Watches.{pairs_of, IsAwake, put_pair};
+ghost use Rattle.kb_propagate.specs.Base.{Stands, IsReady, IsConflict, IsComplete, IsPropagated, IsDoomed};
 ghost use Rattle.kb_sat.specs.Solver.{Equipped, IsEquipped, GoesOn, Keeps, StepIs};
 
 use crate::analysis::{Marks, analyse};
@@ -14,7 +15,7 @@ use crate::parameters::FIRST_PHASE;
 use crate::pick::pick;
 use crate::ranks::{Ranks, levels_of};
 use kb_chain::{Formula, Lit};
-use kb_eliminate::{Base, NoMemory, second_of, watch_pair};
+use kb_propagate::{Base, NoMemory, second_of, watch_pair};
 use kb_rows::Held;
 use std::alloc::Global;
 
@@ -67,7 +68,7 @@ impl<'a> Search<'a> {
         requires equipped { Equipped self.old }
         requires ready { IsReady self.old.base }
         ensures keeps { OnOk result (Keeps self.old self.new) }
-        ensures conflict { IfOk result (λ conflict. IfSome conflict (λ number. IsConflict self.new.base.clauses self.new.base.trail number × IsAwake self.new.base.watches.pairs.items number)) }
+        ensures conflict { IfOk result (λ conflict. IfSome conflict (λ number. IsConflict (rows_of self.new.base.clauses) self.new.base.trail number × IsAwake (pairs_of self.new.base.clauses) number)) }
         ensures complete { IfOk result (λ conflict. IfNone conflict (IsComplete self.new.base)) }
     {
         loop {
@@ -85,7 +86,7 @@ impl<'a> Search<'a> {
         requires equipped { Equipped self.old }
         requires ready { IsReady self.old.base }
         ensures keeps { OnOk result (Keeps self.old self.new) }
-        ensures conflict { IfOk result (λ conflict. IfSome conflict (λ number. IsConflict self.new.base.clauses self.new.base.trail number × IsAwake self.new.base.watches.pairs.items number)) }
+        ensures conflict { IfOk result (λ conflict. IfSome conflict (λ number. IsConflict (rows_of self.new.base.clauses) self.new.base.trail number × IsAwake (pairs_of self.new.base.clauses) number)) }
         ensures settled { IfOk result (λ conflict. IfNone conflict (IsPropagated self.new.base)) }
         ensures grows { OnOk result (TrailGrows self.old.base.trail self.new.base.trail) }
     {
@@ -124,8 +125,8 @@ impl<'a> Search<'a> {
     pub(crate) fn learn(&mut self, alloc: Global, conflict: u32) -> Result<(), NoMemory>
         requires stands { Stands self.old.base }
         requires equipped { Equipped self.old }
-        requires conflict { IsConflict self.old.base.clauses self.old.base.trail conflict }
-        requires awake { IsAwake self.old.base.watches.pairs.items conflict }
+        requires conflict { IsConflict (rows_of self.old.base.clauses) self.old.base.trail conflict }
+        requires awake { IsAwake (pairs_of self.old.base.clauses) conflict }
         requires level { 0 < length self.old.base.trail.starts }
         ensures goes_on { OnOk result (GoesOn self.old self.new) }
         ensures ready { OnOk result (IsReady self.new.base) }
@@ -144,9 +145,10 @@ impl<'a> Search<'a> {
         )?;
         let level = learned.level;
         let literals = learned.literals;
+        let chain = learned.chain;
         let levels = levels_of(&self.base.trail, literals.as_slice());
-        self.ranks.note(&learned.chain);
-        self.base.entries.push(learned.chain)?;
+        self.ranks.note(&chain);
+        self.base.entries.push(chain.start, chain.steps.as_slice())?;
         self.go_back(level)?;
         let row = literals.as_slice();
         let first = row[0];
@@ -162,12 +164,11 @@ impl<'a> Search<'a> {
         requires place { place_of first < 2 * self.old.base.trail.vars + 2 }
         requires unassigned { has self.old.base.trail.literals first ≡ false }
         requires possible { has self.old.base.trail.literals (negated first) ≡ false }
-        ensures clauses { OnOk result (self.new.base.clauses ≡ self.old.base.clauses ++ row.now ∷ []) }
-        ensures pairs { OnOk result (self.new.base.watches.pairs.items ≡ self.old.base.watches.pairs.items ++ paired first second ∷ []) }
-        ensures lists { OnOk result (self.new.base.watches.lists.items ≡ put_pair self.old.base.watches.lists.items first second (length self.old.base.clauses)) }
+        ensures clauses { OnOk result (self.new.base.clauses ≡ self.old.base.clauses ++ awake_clause row.now ∷ []) }
+        ensures lists { OnOk result (self.new.base.watches.lists.items ≡ put_pair self.old.base.watches.lists.items first second (length (rows_of self.old.base.clauses))) }
         ensures trail { OnOk result (self.new.base.trail ≡ record self.old.base.trail {
           literals = self.old.base.trail.literals ++ first ∷ [];
-          reasons = self.old.base.trail.reasons ++ Some (length self.old.base.clauses) ∷ [];
+          reasons = self.old.base.trail.reasons ++ Some (length (rows_of self.old.base.clauses)) ∷ [];
         }) }
         ensures head { OnOk result (self.new.base.head ≡ self.old.base.head) }
         ensures entries { OnOk result (self.new.base.entries ≡ self.old.base.entries) }

@@ -5,7 +5,7 @@ ghost use Rattle.kb_chain.specs.Clause.{Satisfies, assignment_of};
 ghost use Rattle.kb_chain.specs.Chains.{IsRefutation};
 ghost use Rattle.kb_chain.specs.Cnf.{Cnf};
 ghost use Rattle.kb_chain.specs.Propagation.{IsFresh, UnitRefutes};
-ghost use Rattle.kb_eliminate.specs.Base.{Stands, IsReady, IsComplete, IsDoomed};
+ghost use Rattle.kb_propagate.specs.Base.{Stands, IsReady, IsComplete, IsDoomed};
 ghost use Rattle.kb_sat.specs.Solver.{Equipped, GoesOn};
 ghost use Rattle.kb_sat.specs.Answer.{Solves, BegunIs, EndedIs, at_end, KeepsAll, IfSat, IfUnsat, IfUndecided, IsOpenOnly, ProgressIs};
 
@@ -17,7 +17,8 @@ use crate::pace::{Crowding, Pace};
 use crate::parameters::{ELIMINATION, ELIMINATION_CLAUSES, SMALL_BUDGET};
 use crate::search::Search;
 use kb_chain::{Clause, Formula, Log, Row};
-use kb_eliminate::{Eliminated, NoMemory, eliminate, model, restored};
+use kb_eliminate::{Eliminated, eliminate, restored};
+use kb_propagate::{NoMemory, model};
 use kb_rows::Held;
 use std::alloc::Global;
 
@@ -160,7 +161,7 @@ pub(crate) fn attempt(
     match begin(alloc, formula, first, lets_go)? {
         Begun::Doomed(search, number) => {
             let counts = search.get().counts;
-            let log = refutation(alloc, search, number)?;
+            let log = refutation(alloc, search.get(), number)?;
             Ok((Some(Solved::Unsat(log)), counts))
         }
         Begun::Ready(search, eliminated) => {
@@ -299,7 +300,7 @@ fn search_to_end(
 {
     let mut pace = Pace::new();
     let mut crowding = Crowding::new();
-    while search.base.entries.as_slice().len() < budget as usize {
+    while search.base.entries.len() < budget as usize {
         match advance(alloc, search, &mut pace)? {
             Progress::Complete => return Ok(End::Complete),
             Progress::Doomed(number) => return Ok(End::Doomed(number)),
@@ -357,14 +358,15 @@ fn conclude(
             None => Ok(None),
         },
         Ended::Doomed(search, number) => {
-            let log = refutation(alloc, search, number)?;
+            let log = refutation(alloc, search.get(), number)?;
             Ok(Some(Solved::Unsat(log)))
         }
         Ended::Spent(search, _) => {
             if !search.get().base.whole {
                 return Ok(None);
             }
-            Ok(Some(Solved::Undecided(log_of(search))))
+            let log = search.get().base.entries.to_log(alloc)?;
+            Ok(Some(Solved::Undecided(log)))
         }
     }
 }
@@ -425,29 +427,20 @@ fn model_of(
 }
 
 /// The refutation by a clause that is false at level 0.
-fn refutation(alloc: Global, search: Held<Search<'_>>, number: u32) -> Result<Log, NoMemory>
-    requires { IsDoomed search.base number }
-    ensures refutes { IfOk result (λ log. IsRefutation search.entry.base.formula.now.clauses log.entries) }
-    ensures length { IfOk result (λ log. length log.entries ≡ length search.entry.base.entries + 1) }
+fn refutation(alloc: Global, search: &Search<'_>, number: u32) -> Result<Log, NoMemory>
+    requires { IsDoomed search.now.base number }
+    ensures refutes { IfOk result (λ log. IsRefutation search.now.base.formula.now.clauses log.entries) }
+    ensures length { IfOk result (λ log. length log.entries ≡ length search.now.base.entries + 1) }
 {
-    let mut search = search;
-    let base = &search.get().base;
+    let base = &search.base;
+    let mut log = base.entries.to_log(alloc)?;
     let chain = refute(
         alloc,
         base.formula,
-        base.entries.as_slice(),
+        log.entries.as_slice(),
         &base.trail,
         number,
     )?;
-    search.get_mut().base.entries.push(chain)?;
-    Ok(log_of(search))
-}
-
-/// The log of a search.
-fn log_of(search: Held<Search<'_>>) -> Log
-    ensures { result.entries ≡ search.entry.base.entries }
-{
-    Log {
-        entries: search.into_inner().base.entries,
-    }
+    log.entries.push(chain)?;
+    Ok(log)
 }

@@ -13,10 +13,9 @@ use Rattle.kb_heap.specs.declared.heap.Value.{Value}
 use Rattle.kb_heap.specs.declared.heap.Value.TheVariants.{Int}
 use Rattle.kb_heap.specs.declared.heap.Object.{Object}
 use Rattle.kb_heap.specs.Heap.{object_at, with_value}
-use Rattle.kb_link.specs.Subtypes.{fits}
-use Rattle.kb_world.specs.Lookup.{resolved_field, resolved_method, selected_special}
-use Rattle.kb_world.specs.Calls.{is_without_file}
-use Rattle.kb_link.specs.World.{type_entry_of}
+use Rattle.kb_classes.specs.Subtypes.{fits}
+use Rattle.kb_world.specs.Calls.{resolved_field, resolved_method, selected_special, is_without_file}
+use Rattle.kb_classes.specs.World.{type_entry_of}
 use Rattle.kb_semantics.specs.Config.{Setting, Frame, Config, Outcome, has_room, info_of, local_of, result_of, with_local}
 use Rattle.kb_semantics.specs.Values.{kept, takes_component}
 use Rattle.kb_semantics.specs.Operands.{Reference, an_int, a_reference, two_ints, two_references, an_element, an_element_and_value, an_object_and_value, int_of, reference_of, receiver_of}

@@ -9,10 +9,9 @@ use Rattle.kb_class.specs.declared.members.MethodInfo.{MethodInfo}
 use Rattle.kb_class.specs.Loading.{IsWhole}
 use Rattle.kb_code.specs.Listing.{IsLaidOut}
 use Rattle.kb_names.specs.declared.types.Target.{Target}
-use Rattle.kb_link.specs.Links.{IsLinked}
-use Rattle.kb_link.specs.Rules.{HasWholeCode}
-use Rattle.kb_link.specs.Targets.{Declares}
-use Rattle.kb_link.specs.World.{World, methods_in, method_at}
+use Rattle.kb_world.specs.Reach.{Declares, IsLinked}
+use Rattle.kb_classes.specs.Rules.{HasWholeCode}
+use Rattle.kb_classes.specs.World.{World, methods_in, method_at}
 
 -- ---- one method
 

@@ -15,8 +15,8 @@ use Rattle.kb_heap.specs.declared.ending.Ending.{Ending}
 use Rattle.kb_heap.specs.declared.ending.Place.{Place}
 use Rattle.kb_heap.specs.declared.heap.Value.{Value}
 use Rattle.kb_heap.specs.declared.heap.Heap.{Heap}
-use Rattle.kb_link.specs.World.{World, method_at}
-use Rattle.kb_world.specs.Lookup.{only_where}
+use Rattle.kb_classes.specs.World.{World, method_at}
+use Rattle.kb_classes.specs.Options.{only_where}
 
 -- ---- configurations
 

@@ -14,8 +14,8 @@ use Rattle.kb_heap.specs.declared.heap.Value.TheVariants.{Ref}
 use Rattle.kb_heap.specs.declared.heap.Object.{Object}
 use Rattle.kb_heap.specs.declared.heap.Heap.{Heap}
 use Rattle.kb_heap.specs.declared.heap.Input.{Input}
-use Rattle.kb_link.specs.World.{World}
-use Rattle.kb_link.specs.declared.slots.FieldSlot.{FieldSlot}
+use Rattle.kb_classes.specs.World.{World}
+use Rattle.kb_classes.specs.declared.slots.FieldSlot.{FieldSlot}
 use Rattle.kb_semantics.specs.Config.{info_of, class_name}
 use Rattle.kb_semantics.specs.Values.{IsValueOf, AreValuesOf, slots_of_class}
 

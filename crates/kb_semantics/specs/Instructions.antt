@@ -27,11 +27,11 @@ use Rattle.kb_heap.specs.declared.heap.Value.TheVariants.{Int, Null, Ref}
 use Rattle.kb_heap.specs.declared.heap.Object.{Object}
 use Rattle.kb_heap.specs.declared.heap.Heap.{Heap}
 use Rattle.kb_heap.specs.Heap.{object_at, with_value, with_object}
-use Rattle.kb_link.specs.declared.slots.FieldSlot.{FieldSlot}
-use Rattle.kb_link.specs.World.{World, number_in, chain_of, type_entry_of, int_entry_of, literal_entry_of}
-use Rattle.kb_link.specs.Subtypes.{fits, type_of_exact}
-use Rattle.kb_world.specs.Lookup.{or_else, only_where, sought_at, resolved_field, resolved_method, selected_special}
-use Rattle.kb_world.specs.Calls.{selected_on, receives, is_without_file}
+use Rattle.kb_classes.specs.declared.slots.FieldSlot.{FieldSlot}
+use Rattle.kb_classes.specs.World.{World, number_in, chain_of, type_entry_of, int_entry_of, literal_entry_of}
+use Rattle.kb_classes.specs.Subtypes.{fits, type_of_exact}
+use Rattle.kb_classes.specs.Options.{or_else, only_where}
+use Rattle.kb_world.specs.Calls.{sought_at, resolved_field, resolved_method, selected_special, selected_on, receives, is_without_file}
 use Rattle.kb_semantics.specs.Config.{Setting, Config, Outcome, info_of, class_number, local_of, with_local}
 use Rattle.kb_semantics.specs.Values.{kept, default_of, takes_component, new_object}
 use Rattle.kb_semantics.specs.Comparisons.{holds, is_so, equal, switch_target}

@@ -14,9 +14,9 @@ use Rattle.kb_code.specs.declared.instruction.Instr.TheVariants as instrs
 use Rattle.kb_heap.specs.declared.heap.Value.{Value}
 use Rattle.kb_heap.specs.declared.heap.Object.{Object}
 use Rattle.kb_heap.specs.Heap.{object_at}
-use Rattle.kb_link.specs.declared.slots.FieldSlot.{FieldSlot}
-use Rattle.kb_world.specs.Lookup.{resolved_field, selected_special}
-pub use Rattle.kb_world.specs.Lookup.{only_where}
+use Rattle.kb_classes.specs.declared.slots.FieldSlot.{FieldSlot}
+pub use Rattle.kb_classes.specs.Options.{only_where}
+use Rattle.kb_world.specs.Calls.{resolved_field, selected_special}
 use Rattle.kb_semantics.specs.Config.{Setting, Config, info_of, instruction_at}
 use Rattle.kb_semantics.specs.Values.{takes_component}
 use Rattle.kb_semantics.specs.Comparisons.{Comparison, equal, less, less_unsigned, compared, compared_keys, table_keys}

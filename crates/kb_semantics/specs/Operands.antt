@@ -9,7 +9,7 @@ use Rattle.kb_code.specs.declared.instruction.Elem.TheVariants as elems
 use Rattle.kb_heap.specs.declared.heap.Value.{Value}
 use Rattle.kb_heap.specs.declared.heap.Value.TheVariants.{Int, Null, Ref}
 use Rattle.kb_class.specs.Platform.{object_name}
-use Rattle.kb_world.specs.Lookup.{only_where}
+use Rattle.kb_classes.specs.Options.{only_where}
 use Rattle.kb_semantics.specs.Values.{kept, is_of_kind}
 
 -- ---- kinds

@@ -8,10 +8,10 @@ use Rattle.kb_heap.specs.declared.bounds.Bound.TheVariants.{Steps}
 use Rattle.kb_heap.specs.declared.ending.Ending.TheVariants.{Past}
 use Rattle.kb_heap.specs.declared.heap.Heap.{Heap}
 use Rattle.kb_heap.specs.declared.heap.Input.{Input}
-use Rattle.kb_link.specs.World.{World}
+use Rattle.kb_classes.specs.World.{World}
 use Rattle.kb_heap.specs.Heap.{literal}
 use Rattle.kb_semantics.specs.Config.{Setting, Config, Ended, Outcome, Goes, Ends, instruction_at, first_frame}
-use Rattle.kb_world.specs.Faults.{component_of_code}
+use Rattle.kb_world.specs.Calls.{component_of_code}
 use Rattle.kb_semantics.specs.Comparisons.{table_keys}
 use Rattle.kb_semantics.specs.Ways.{ill_typed, past}
 use Rattle.kb_semantics.specs.Instructions.{here, nop, push_null, push_int, load_constant, load_int, load_reference, store_int, store_reference, increase, without, copied_below, exchanged, rearrange, apply_two, negate, narrow, if_int, if_ints, if_same, if_null, goto, switch, return_int, return_reference, return_nothing, get_field, put_field, make_object, load_element, store_element, array_length, make_array, component_of_entry, cast, instance_of, throw, BySelection, Special, Static, invoke}

@@ -15,10 +15,10 @@ use Rattle.kb_heap.specs.declared.heap.Value.TheVariants.{Int, Null, Ref}
 use Rattle.kb_heap.specs.declared.heap.Object.{Object}
 use Rattle.kb_heap.specs.declared.heap.Heap.{Heap}
 use Rattle.kb_heap.specs.Heap.{object_at}
-use Rattle.kb_link.specs.World.{World, number_in}
-use Rattle.kb_link.specs.Slots.{slots_of}
-use Rattle.kb_link.specs.Subtypes.{fits}
-use Rattle.kb_link.specs.declared.slots.FieldSlot.{FieldSlot}
+use Rattle.kb_classes.specs.World.{World, number_in}
+use Rattle.kb_classes.specs.Slots.{slots_of}
+use Rattle.kb_classes.specs.Subtypes.{fits}
+use Rattle.kb_classes.specs.declared.slots.FieldSlot.{FieldSlot}
 
 -- ---- values of a type
 

@@ -16,9 +16,9 @@ use Rattle.kb_heap.specs.declared.heap.Value.{Value}
 use Rattle.kb_heap.specs.declared.heap.Value.TheVariants.{Ref}
 use Rattle.kb_heap.specs.declared.heap.Heap.{Heap}
 use Rattle.kb_heap.specs.Heap.{with_object}
-use Rattle.kb_link.specs.World.{World, type_entry_of}
-use Rattle.kb_link.specs.Subtypes.{fits, type_of_exact}
-use Rattle.kb_world.specs.Lookup.{only_where}
+use Rattle.kb_classes.specs.World.{World, type_entry_of}
+use Rattle.kb_classes.specs.Subtypes.{fits, type_of_exact}
+use Rattle.kb_classes.specs.Options.{only_where}
 use Rattle.kb_semantics.specs.Config.{Setting, Frame, Config, Outcome, Goes, Ends, code_of, class_number, result_of, place_in_code, behind, has_room, first_frame}
 use Rattle.kb_semantics.specs.Values.{kept, new_object}
 

@@ -5,7 +5,7 @@ use Rattle.kb_code.specs.declared.instruction.Instr.{Instr}
 use Rattle.kb_heap.specs.declared.bounds.Bounds.{Bounds}
 use Rattle.kb_heap.specs.declared.heap.Input.{Input}
 use Rattle.kb_heap.specs.declared.heap.Value.TheVariants.{Int as IntValue}
-use Rattle.kb_link.specs.World.{World}
+use Rattle.kb_classes.specs.World.{World}
 use Rattle.kb_semantics.specs.Config.{Setting, Config, instruction_at}
 use Rattle.kb_semantics.specs.Comparisons.{Comparison}
 use Rattle.kb_semantics.specs.Looks.{taken_up}

@@ -31,7 +31,7 @@ use Rattle.kb_ways.specs.Needs.{IsTermOf, IsSide}
 use Rattle.kb_ways.specs.Simulation.{IsComparedBy}
 use Rattle.kb_ways.proofs.AskedLaws.{AreAskable, asks_for, side_value}
 use Rattle.kb_ways.proofs.SideLaws.{branch_sides, key_sides}
-use Rattle.kb_ways.proofs.ItemLaws.{two_parts}
+use Rattle.kb_frames.proofs.ItemLaws.{two_parts}
 use Rattle.kb_ways.proofs.OperandLaws.{int_is_term}
 
 -- ---- operands

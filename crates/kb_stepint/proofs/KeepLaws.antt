@@ -3,7 +3,7 @@ use Rattle.std.proofs.Common.{◌≡◌, ℕ, ℤ, inl, inr, List, [], ◌∷◌
 use Rattle.kb_code.specs.declared.instruction.Instr.{Instr}
 use Rattle.kb_code.specs.declared.instruction.IntOp.{IntOp}
 use Rattle.kb_heap.specs.declared.bounds.Bounds.{Bounds}
-use Rattle.kb_link.specs.World.{World, int_entry_of}
+use Rattle.kb_classes.specs.World.{World, int_entry_of}
 use Rattle.kb_semantics.specs.Config.{class_number, instruction_at}
 use Rattle.kb_terms.specs.declared.op.Op.TheVariants.{Add, Neg}
 use Rattle.kb_terms.specs.declared.node.TermId.{TermId}

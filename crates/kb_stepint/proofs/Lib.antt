@@ -7,6 +7,7 @@ pub mod KeyLaws
 pub mod MeasureLaws
 pub mod OneLaws
 pub mod OneListed
+pub mod OnlyLaws
 pub mod OutcomeLaws
 pub mod OutcomePlans
 pub mod OutcomeReads

@@ -10,7 +10,7 @@ use Rattle.kb_heap.specs.declared.bounds.Bound.TheVariants.{Steps}
 use Rattle.kb_heap.specs.declared.bounds.Bounds.{Bounds}
 use Rattle.kb_heap.specs.declared.heap.Input.{Input}
 use Rattle.kb_heap.specs.declared.heap.Value.TheVariants.{Int as IntValue}
-use Rattle.kb_link.specs.World.{World}
+use Rattle.kb_classes.specs.World.{World}
 use Rattle.kb_names.specs.declared.types.JType.{JType}
 use Rattle.kb_semantics.specs.Config.{Config, info_of, instruction_at}
 use Rattle.kb_semantics.specs.Inputs.{IsTypeCorrect, argument_types}
@@ -34,7 +34,8 @@ use Rattle.kb_frames.specs.StandsFor.{IsInstanceOf, StandsFor}
 use Rattle.kb_frames.specs.State.{State}
 use Rattle.kb_ways.specs.declared.condition.Condition.{Condition}
 use Rattle.kb_ways.specs.Asked.{all_asked, is_refuted}
-use Rattle.kb_stepint.specs.Choices.{choices_of, conditions_of, listed, offered, only}
+use Rattle.kb_stepint.specs.Choices.{choices_of, conditions_of, listed, offered}
+use Rattle.kb_ways.specs.Advancing.{only}
 use Rattle.kb_ways.specs.Plans.{Planned, takes_next, takes_up, carried_out}
 use Rattle.kb_stepint.specs.Effects.{plan_of, effect_of}
 use Rattle.kb_stepint.specs.Laws.{IsAtInts}
@@ -45,7 +46,7 @@ use Rattle.kb_stepint.specs.Takes.{reads_argument, taken}
 use Rattle.kb_ways.specs.Ways.{ill_typed}
 use Rattle.kb_ways.proofs.KeepLaws.{went_when, went_stays}
 use Rattle.kb_ways.proofs.OperandLaws.{int_is_term}
-use Rattle.kb_ways.proofs.ItemLaws.{two_parts}
+use Rattle.kb_frames.proofs.ItemLaws.{two_parts}
 use Rattle.kb_ways.proofs.GrowLaws.{Grows, all_asked_grows, HasMore}
 use Rattle.kb_stepint.proofs.KeepLaws.{effect_makes}
 use Rattle.kb_ways.proofs.OneAsked.{AllHold, AllSides, IsReady, conditions_there}

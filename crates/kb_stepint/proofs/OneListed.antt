@@ -26,7 +26,8 @@ use Rattle.kb_ways.specs.declared.condition.Condition.{Condition}
 use Rattle.kb_ways.specs.declared.condition.Side.{Side}
 use Rattle.kb_ways.specs.declared.condition.Side.TheVariants.{Term, Number}
 use Rattle.kb_ways.specs.Asked.{branch_condition, equal_sides}
-use Rattle.kb_stepint.specs.Choices.{only, both_ways, keys_from, divisors, listed, branch_conditions, key_conditions, divisor_conditions, division_conditions, conditions_of}
+use Rattle.kb_stepint.specs.Choices.{both_ways, keys_from, divisors, listed, branch_conditions, key_conditions, divisor_conditions, division_conditions, conditions_of}
+use Rattle.kb_ways.specs.Advancing.{only}
 use Rattle.kb_ways.specs.Needs.{IsSide}
 use Rattle.kb_ways.specs.Operands.{an_int, two_ints}
 use Rattle.kb_ways.proofs.AskedLaws.{side_value}

@@ -19,8 +19,8 @@ use Rattle.kb_code.specs.declared.instruction.IntOp.{IntOp}
 use Rattle.kb_code.specs.declared.instruction.IntOp.TheVariants as ops
 use Rattle.kb_heap.specs.declared.heap.Value.{Value}
 use Rattle.kb_heap.specs.declared.heap.Value.TheVariants.{Int as IntValue, Ref}
-use Rattle.kb_link.specs.World.{int_entry_of, literal_entry_of}
-use Rattle.kb_world.specs.Lookup.{or_else}
+use Rattle.kb_classes.specs.World.{int_entry_of, literal_entry_of}
+use Rattle.kb_resolution.specs.Lookup.{or_else}
 use Rattle.kb_names.specs.declared.types.JType.{JType}
 use Rattle.kb_names.specs.declared.types.JType.TheVariants as types
 use Rattle.kb_semantics.specs.Comparisons.{holds, switch_target, table_keys}
@@ -53,12 +53,12 @@ use Rattle.kb_frames.specs.State.{State}
 use Rattle.kb_ways.specs.declared.condition.Side.{Side}
 use Rattle.kb_ways.specs.declared.condition.Side.TheVariants.{Term, Number}
 use Rattle.kb_ways.specs.Asked.{interned_op}
-use Rattle.kb_stepint.specs.Choices.{both_ways, branch_conditions, conditions_of, division_conditions, divisor_conditions, divisors, key_conditions, keys_from, listed, only}
-use Rattle.kb_ways.specs.Kept.{kept as sym_kept}
+use Rattle.kb_stepint.specs.Choices.{both_ways, branch_conditions, conditions_of, division_conditions, divisor_conditions, divisors, key_conditions, keys_from, listed}
+use Rattle.kb_ways.specs.Kept.{kept as sym_kept, masked}
+use Rattle.kb_ways.specs.Advancing.{only}
 use Rattle.kb_ways.specs.Plans.{returns_value as returns_value_sym, leaves_with, Planned, plain, planned}
 use Rattle.kb_stepint.specs.Effects.{pushes, pushes_int, int_local, loads, in_local, stores, adds, increases, picked, rearranges, op_of, op_of_cut, computes, computes_by, computes_two, branch_way, switch_way, switches, returns_int, branches as branches_sym, returns_nothing as returns_nothing_sym, effect_of}
 use Rattle.kb_ways.specs.Ways.{with_stack, Goes, Jumps, Leaves, Fails}
-use Rattle.kb_ways.specs.Kept.{masked}
 use Rattle.kb_ways.specs.Needs.{IsTermOf}
 use Rattle.kb_ways.specs.Operands.{int_term, an_int as one_int, two_ints}
 use Rattle.kb_stepint.proofs.ComparedLaws.{one_int_is, two_ints_are}

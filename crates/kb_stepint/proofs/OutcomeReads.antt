@@ -6,7 +6,7 @@ use Rattle.kb_heap.specs.declared.bounds.Bounds.{Bounds}
 use Rattle.kb_heap.specs.declared.heap.Input.{Input}
 use Rattle.kb_heap.specs.declared.heap.Value.{Value}
 use Rattle.kb_heap.specs.declared.heap.Value.TheVariants.{Int as IntValue}
-use Rattle.kb_link.specs.World.{World}
+use Rattle.kb_classes.specs.World.{World}
 use Rattle.kb_names.specs.declared.types.JType.{JType}
 use Rattle.kb_semantics.specs.Config.{Config}
 use Rattle.kb_semantics.specs.Step.{first_heap}

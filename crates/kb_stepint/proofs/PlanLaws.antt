@@ -4,7 +4,7 @@ use Rattle.std.proofs.lemmas.List.{length-set}
 use Rattle.kb_code.specs.declared.instruction.Instr.{Instr}
 use Rattle.kb_code.specs.declared.instruction.Instr.TheVariants as instrs
 use Rattle.kb_code.specs.declared.instruction.IntOp.{IntOp}
-use Rattle.kb_link.specs.World.{World, int_entry_of}
+use Rattle.kb_classes.specs.World.{World, int_entry_of}
 use Rattle.kb_semantics.specs.Config.{class_number, max_locals_of, result_of}
 use Rattle.kb_semantics.specs.Comparisons.{table_keys}
 use Rattle.kb_terms.specs.declared.op.Op.{Op}
@@ -29,7 +29,7 @@ use Rattle.kb_ways.specs.Ways.{with_stack, Goes, Jumps, Leaves, Fails}
 use Rattle.kb_ways.specs.Operands.{int_term, an_int, two_ints}
 use Rattle.kb_ways.proofs.AskedLaws.{interned_is_term}
 use Rattle.kb_ways.proofs.GrowLaws.{if_has, interned_extends, op_extends, option_has}
-use Rattle.kb_ways.proofs.ItemLaws.{each_append, each_cons, each_drop, each_picked, each_set, option_has_at}
+use Rattle.kb_frames.proofs.ItemLaws.{each_append, each_cons, each_drop, each_picked, each_set, option_has_at}
 use Rattle.kb_ways.proofs.SoundLaws.{Still, locals_still, values_still}
 use Rattle.kb_ways.proofs.GoodWays.{CanGo, IsGood}
 use Rattle.kb_ways.proofs.KeptLaws.{returns_has}

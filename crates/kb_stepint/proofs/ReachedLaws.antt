@@ -7,7 +7,7 @@ use Rattle.kb_code.specs.declared.instruction.Instr.{Instr}
 use Rattle.kb_code.specs.declared.instruction.IntOp.{IntOp}
 use Rattle.kb_heap.specs.declared.bounds.Bound.TheVariants.{Steps}
 use Rattle.kb_heap.specs.declared.bounds.Bounds.{Bounds}
-use Rattle.kb_link.specs.World.{World}
+use Rattle.kb_classes.specs.World.{World}
 use Rattle.kb_names.specs.declared.types.JType.{JType}
 use Rattle.kb_semantics.specs.Comparisons.{table_keys}
 use Rattle.kb_semantics.specs.Config.{instruction_at, max_locals_of}

@@ -16,12 +16,12 @@ use Rattle.kb_code.specs.declared.instruction.Instr.TheVariants as instrs
 use Rattle.kb_code.specs.declared.instruction.IntOp.{IntOp}
 use Rattle.kb_code.specs.declared.instruction.IntOp.TheVariants as ops
 use Rattle.kb_heap.specs.declared.bounds.Bounds.{Bounds}
-use Rattle.kb_link.specs.World.{World}
+use Rattle.kb_classes.specs.World.{World}
 use Rattle.kb_semantics.specs.Comparisons.{table_keys}
 use Rattle.kb_semantics.specs.Looks.{if_some}
 use Rattle.kb_terms.specs.declared.node.TermId.{TermId}
 use Rattle.kb_picture.specs.declared.choice.Choice.{Choice}
-use Rattle.kb_picture.specs.declared.choice.Choice.TheVariants.{Only, Branch, Key, Default, Zero, NotZero}
+use Rattle.kb_picture.specs.declared.choice.Choice.TheVariants.{Branch, Key, Default, Zero, NotZero}
 use Rattle.kb_frames.specs.declared.value.SymValue.{SymValue}
 use Rattle.kb_frames.specs.State.{State}
 use Rattle.kb_frames.specs.Lent.{stack_of}
@@ -31,9 +31,7 @@ use Rattle.kb_ways.specs.declared.condition.Side.TheVariants.{Term, Number}
 use Rattle.kb_ways.specs.declared.condition.Condition.{Condition}
 use Rattle.kb_ways.specs.Operands.{an_int, two_ints}
 use Rattle.kb_ways.specs.Asked.{equal_sides, branch_condition, is_refuted}
-
-abbrev pub only : List Choice
-only = Only ∷ []
+use Rattle.kb_ways.specs.Advancing.{only}
 
 -- ---- the list of an instruction
 

@@ -10,7 +10,7 @@ use Rattle.kb_code.specs.declared.instruction.IntCut.{IntCut}
 use Rattle.kb_code.specs.declared.instruction.IntCut.TheVariants as cuts
 use Rattle.kb_code.specs.declared.instruction.IntOp.{IntOp}
 use Rattle.kb_code.specs.declared.instruction.IntOp.TheVariants as ops
-use Rattle.kb_link.specs.World.{World, int_entry_of}
+use Rattle.kb_classes.specs.World.{World, int_entry_of}
 use Rattle.kb_semantics.specs.Config.{class_number, max_locals_of, result_of}
 use Rattle.kb_semantics.specs.Comparisons.{table_keys}
 use Rattle.kb_semantics.specs.Ways.{arithmetic}

@@ -8,7 +8,7 @@ use Rattle.kb_class.specs.declared.members.MethodCode.{MethodCode}
 use Rattle.kb_class.specs.declared.members.MethodInfo.{MethodInfo}
 use Rattle.kb_class.specs.Members.{is_static}
 use Rattle.kb_code.specs.declared.instruction.Instr.{Instr}
-use Rattle.kb_link.specs.World.{World}
+use Rattle.kb_classes.specs.World.{World}
 use Rattle.kb_names.specs.declared.types.JType.{JType}
 use Rattle.kb_semantics.specs.Config.{info_of}
 use Rattle.kb_frames.specs.Next.{is_int_instruction}

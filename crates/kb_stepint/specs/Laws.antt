@@ -2,7 +2,7 @@
 use Rattle.std.specs.Prelude.{◌≡◌, true}
 use Rattle.kb_class.specs.Naming.{Has}
 use Rattle.kb_heap.specs.declared.bounds.Bounds.{Bounds}
-use Rattle.kb_link.specs.World.{World}
+use Rattle.kb_classes.specs.World.{World}
 use Rattle.kb_picture.specs.declared.choice.Choice.{Choice}
 use Rattle.kb_frames.specs.State.{State}
 use Rattle.kb_frames.specs.Next.{next_is_int}
@@ -11,8 +11,8 @@ use Rattle.kb_ways.specs.Reached.{HasNoHandlers, IsAlone, IsReached}
 use Rattle.kb_stepint.specs.Takes.{taken}
 use Rattle.kb_ways.specs.Ways.{Take}
 
--- The next step of the state is one of ints, so its next instruction is one that is built. For now the frame has no callers, and
--- the method has no handlers.
+-- The next step of the state is one of ints: an argument is read that is no reference, or the next instruction is one of ints.
+-- For now the frame has no callers, and the method has no handlers.
 pub record IsAtInts (world : World) (state : State) : Type 0 where
   pub reached : IsReached world state
   pub alone : IsAlone state.method state.stage

@@ -4,3 +4,4 @@ pub mod Takes
 pub mod IntMethods
 pub mod Laws
 pub mod Keys
+pub mod Questions

@@ -1,25 +1,25 @@
 //! The alternatives of the next int step.
-ghost use Rattle.std.specs.Prelude.{◌≡◌, ◌++◌, ◌∷◌, [], not, true, cond, filter, IfOk, OnOk};
+ghost use Rattle.std.specs.Prelude.{◌≡◌, ◌++◌, ◌∷◌, [], Some, not, true, cond, filter, IfOk, OnOk};
 ghost use Rattle.kb_terms.specs.Terms.{IsTerm};
-ghost use Rattle.kb_frames.specs.Lent.{stack_of};
 ghost use Rattle.kb_frames.specs.Next.{next_is_int};
 ghost use Rattle.kb_ways.specs.Asked.{asked_truth, is_against, is_refuted};
-ghost use Rattle.kb_stepint.specs.Choices.{both_ways, branch_conditions, choices_of, division_conditions, divisor_conditions, divisors, key_conditions, keys_from, offered, only, takes_up_none};
-ghost use Rattle.kb_ways.specs.Needs.{AreSides, HasTerms, IsSide};
+ghost use Rattle.kb_stepint.specs.Choices.{both_ways, branch_conditions, choices_of, divisor_conditions, key_conditions, keys_from};
+ghost use Rattle.kb_stepint.specs.Questions.{HasTermsOf, offered_by};
+ghost use Rattle.kb_ways.specs.Needs.{AreSides, IsSide};
 ghost use Rattle.kb_ways.specs.Reached.{IsReached};
 ghost use Rattle.kb_stepint.specs.Keys.{keys_of};
 ghost use Rattle.kb_picture.specs.declared.choice.Choice.TheVariants.{Default, Key, NotZero, Zero};
 
 use crate::NoMemory;
 use crate::keys::Keys;
-use kb_code::{Cond, Instr, IntOp};
+use crate::questions::{IntQuestion, question_next};
+use kb_code::Cond;
 use kb_frames::SymState;
 use kb_heap::Bounds;
-use kb_lookups::instruction_at;
 use kb_picture::Choice;
+use kb_semantics::World;
 use kb_terms::TermId;
-use kb_ways::{Condition, Side, an_int, branch_condition, equals_number, is_against, two_ints};
-use kb_world::World;
+use kb_ways::{Condition, Side, branch_condition, equals_number, is_against, only};
 use std::alloc::Global;
 
 /// The alternatives of the next step of a state, in their order. Whether a branch is taken: not, then taken. Of a switch each
@@ -38,69 +38,27 @@ pub fn choices_int(
     requires int { next_is_int world.now state.now ≡ true }
     ensures { IfOk result (λ choices. choices.items ≡ choices_of world.now state.now bounds.now) }
 {
-    if takes_up_none(world, state, bounds) {
-        return only(alloc);
-    }
-    let (method, at) = state.stands_at();
-    match instruction_at(world, method, at) {
-        Some(found) => offered(alloc, state, found.instr),
+    match question_next(world, state, bounds) {
+        Some(question) => alternatives(alloc, state, &question),
         None => only(alloc),
     }
 }
 
-// Whether no instruction is taken up: an argument is read, or as many instructions were carried out as may be.
-#[tactic(auto, using(kb_ways::proofs::TakeLaws::kind_is))]
-fn takes_up_none(world: &World, state: &SymState, bounds: &Bounds) -> bool
-    ensures { result ≡ takes_up_none world.now state.now bounds.now }
+/// The alternatives of what is to be told that ask for nothing that is decided as false.
+pub(crate) fn alternatives(
+    alloc: Global,
+    state: &SymState,
+    question: &IntQuestion<'_>,
+) -> Result<Vec<Choice>, NoMemory>
+    requires { HasTermsOf state.now.nodes question.now }
+    ensures { IfOk result (λ choices. choices.items ≡ offered_by state.now (Some question.now)) }
 {
-    match state.next_kind(world) {
-        Some(_) => true,
-        None => bounds.run.steps <= state.carried(),
-    }
-}
-
-fn only(alloc: Global) -> Result<Vec<Choice>, NoMemory>
-    ensures { IfOk result (λ choices. choices.items ≡ only) }
-{
-    let mut choices = Vec::new(alloc);
-    choices.push(Choice::Only)?;
-    Ok(choices)
-}
-
-// Those of an instruction that ask for nothing that is decided as false.
-#[tactic(auto, using(kb_ways::proofs::OperandLaws::one_there, kb_ways::proofs::OperandLaws::left_there, kb_ways::proofs::OperandLaws::right_there))]
-fn offered(alloc: Global, state: &SymState, instr: &Instr) -> Result<Vec<Choice>, NoMemory>
-    requires { HasTerms state.now }
-    ensures { IfOk result (λ choices. choices.items ≡ offered state.now (stack_of state.now.stage) instr.now) }
-{
-    match instr {
-        Instr::IfInt(cond, _) => match an_int(state) {
-            Some(x) => branch_choices(alloc, state, *cond, Side::Term(x), Side::Number(0)),
-            None => only(alloc),
-        },
-        Instr::IfPair(cond, _) => match two_ints(state) {
-            Some((left, right)) => branch_choices(
-                alloc,
-                state,
-                *cond,
-                Side::Term(left),
-                Side::Term(right),
-            ),
-            None => only(alloc),
-        },
-        Instr::Table(low, _, targets) => match an_int(state) {
-            Some(x) => key_choices(alloc, state, x, &Keys::Table(*low, targets.as_slice())),
-            None => only(alloc),
-        },
-        Instr::Lookup(_, keys) => match an_int(state) {
-            Some(x) => key_choices(alloc, state, x, &Keys::Lookup(keys.as_slice())),
-            None => only(alloc),
-        },
-        Instr::Int2(op) => match two_ints(state) {
-            Some((_, right)) => divisor_choices(alloc, state, *op, right),
-            None => only(alloc),
-        },
-        _ => only(alloc),
+    match question {
+        IntQuestion::Branch(cond, left, right) => branch_choices(
+            alloc, state, *cond, *left, *right,
+        ),
+        IntQuestion::Key(x, keys) => key_choices(alloc, state, *x, keys),
+        IntQuestion::Divisor(x) => zero_choices(alloc, state, *x),
     }
 }
 
@@ -143,21 +101,6 @@ fn branch_choices(
 }
 
 // Whether a divisor is 0.
-fn divisor_choices(
-    alloc: Global,
-    state: &SymState,
-    op: IntOp,
-    divisor: TermId,
-) -> Result<Vec<Choice>, NoMemory>
-    requires { IsTerm state.now.nodes divisor }
-    ensures { IfOk result (λ choices. choices.items ≡ filter (λ choice. not (is_refuted state.now (division_conditions op divisor choice))) (divisors op)) }
-{
-    match op {
-        IntOp::Div | IntOp::Rem => zero_choices(alloc, state, divisor),
-        _ => only(alloc),
-    }
-}
-
 #[tactic(auto, using(kb_ways::proofs::SideLaws::key_sides))]
 fn zero_choices(alloc: Global, state: &SymState, divisor: TermId) -> Result<Vec<Choice>, NoMemory>
     requires { IsTerm state.now.nodes divisor }

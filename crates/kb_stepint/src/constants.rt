@@ -1,6 +1,6 @@
 //! Instructions that push an int that the code tells (JVMS 8 section 6.5).
 ghost use Rattle.std.specs.Prelude.{◌≡◌, ◌<◌, IfOk};
-ghost use Rattle.kb_link.specs.World.{int_entry_of};
+ghost use Rattle.kb_classes.specs.World.{int_entry_of};
 ghost use Rattle.kb_semantics.specs.Config.{class_number};
 ghost use Rattle.kb_frames.specs.Next.{method_now};
 ghost use Rattle.kb_ways.specs.Plans.{planned};
@@ -11,8 +11,8 @@ use crate::NoMemory;
 use kb_class::MethodId;
 use kb_frames::{Outcome, SymState, SymValue};
 use kb_lookups::declaring_class;
+use kb_semantics::World;
 use kb_ways::{Turn, constant, ill_typed, replaces};
-use kb_world::World;
 
 /// iconst, bipush, sipush
 pub(crate) fn push_int(

@@ -10,7 +10,7 @@ ghost use Rattle.kb_stepint.specs.IntMethods.{is_int_code, is_int_info, is_int_m
 use kb_class::{MethodCode, MethodId, MethodInfo, is_static};
 use kb_frames::is_int_instruction;
 use kb_names::JType;
-use kb_world::World;
+use kb_semantics::World;
 
 /// Whether the method is one over ints: static, its parameters and its result ints and booleans, with code that has no handlers
 /// and uses instructions on ints and the stack alone. Then the steps of its states are steps of ints. It takes no memory.

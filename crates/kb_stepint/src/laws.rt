@@ -2,7 +2,8 @@
 ghost use Rattle.std.specs.Prelude.{◌≡◌, true};
 ghost use Rattle.kb_class.specs.declared.ids.MethodId.{MethodId};
 ghost use Rattle.kb_link.specs.Links.{IsLinked};
-ghost use Rattle.kb_link.specs.World.{World};
+ghost use Rattle.kb_classes.specs.World.{World};
+ghost use Rattle.kb_picture.specs.declared.choice.Choice.TheVariants.{Only};
 ghost use Rattle.kb_picture.specs.declared.choice.Init.{Init};
 ghost use Rattle.kb_frames.specs.Next.{next_is_int};
 ghost use Rattle.kb_frames.specs.State.{State, start_state};
@@ -10,7 +11,7 @@ ghost use Rattle.kb_stepint.specs.Choices.{choices_of};
 ghost use Rattle.kb_stepint.specs.IntMethods.{is_int_method};
 ghost use Rattle.kb_ways.specs.Reached.{HasNoHandlers, IsAlone, IsReached};
 ghost use Rattle.kb_stepint.specs.Laws.{OfStates, OfTakes};
-ghost use Rattle.kb_ways.specs.Simulation.{AddsComparisons, FollowsStep, GetsOn, HasInputOfState, Keeps, ReadsWhatItSees, TakesOneWay};
+ghost use Rattle.kb_ways.specs.Simulation.{AddsComparisons, AddsNoCondition, FollowsStep, GetsOn, HasInputOfState, Keeps, ReadsWhatItSees, TakesOneWay};
 ghost use Rattle.kb_stepint.specs.Takes.{taken};
 
 /// A method that is one over ints begins with a state that is reached (`begins`), it has no handlers (`unhandled`), and each
@@ -36,6 +37,11 @@ pub fn int_steps_keep()
     ensures picture { OfTakes (λ world bounds state take. HasInputOfState world take.state) }
     ensures compared { OfTakes (λ world bounds state take. AddsComparisons world bounds state take.state) }
     ensures read { OfTakes (λ world bounds state take. ReadsWhatItSees world bounds state take.state) }
+{}
+
+/// The only way on adds no condition: one is added where something was chosen.
+pub fn only_int_steps_add_no_condition()
+    ensures { OfStates (λ world bounds state. AddsNoCondition state (taken world bounds state Only).state) }
 {}
 
 /// Each take leaves fewer choices before the same instruction, or has carried out one more: so an exploration ends.

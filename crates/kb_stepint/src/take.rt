@@ -6,7 +6,8 @@ ghost use Rattle.kb_frames.specs.Lent.{stack_of};
 ghost use Rattle.kb_frames.specs.Next.{next_is_int};
 ghost use Rattle.kb_picture.specs.declared.choice.Choice.TheVariants.{Default, Key};
 ghost use Rattle.kb_ways.specs.Asked.{all_asked};
-ghost use Rattle.kb_stepint.specs.Choices.{branch_conditions, choices_of, conditions_of, division_conditions, divisor_conditions, key_conditions};
+ghost use Rattle.kb_stepint.specs.Choices.{branch_conditions, choices_of, conditions_of, divisor_conditions, key_conditions};
+ghost use Rattle.kb_stepint.specs.Questions.{HasTermsOf, asks_for};
 ghost use Rattle.kb_ways.specs.Needs.{CanStep, HasTerms, IsSide};
 ghost use Rattle.kb_ways.specs.Reached.{HasNoHandlers, IsAlone, IsReached};
 ghost use Rattle.kb_stepint.specs.Laws.{IsAtInts};
@@ -19,14 +20,15 @@ ghost use Rattle.kb_stepint.specs.Effects.{plan_of};
 use crate::NoMemory;
 use crate::instructions::carry_out;
 use crate::keys::Keys;
-use kb_code::{Cond, Instr, IntOp};
+use crate::questions::{IntQuestion, question_of};
+use kb_code::{Cond, Instr};
 use kb_frames::{Outcome, SymState};
 use kb_heap::{Bound, Bounds};
 use kb_lookups::instruction_at;
 use kb_picture::{Choice, Origin, SymEnding};
+use kb_semantics::World;
 use kb_terms::TermId;
-use kb_ways::{Side, Turn, an_int, ask, branch_condition, equals_number, place_of, two_ints};
-use kb_world::World;
+use kb_ways::{Side, Turn, ask, branch_condition, equals_number, place_of};
 use std::alloc::Global;
 
 /// Takes an alternative that [`crate::choices_int`] lists for the state. An argument that is read is a new variable, and the
@@ -106,39 +108,25 @@ fn take_up(
 }
 
 // Adds the conditions that an alternative of an instruction asks for.
-#[tactic(auto, using(kb_ways::proofs::OperandLaws::one_there, kb_ways::proofs::OperandLaws::left_there, kb_ways::proofs::OperandLaws::right_there))]
 fn ask_for(state: &mut SymState, instr: &Instr, choice: &Choice) -> Result<(), NoMemory>
     requires { HasTerms state.old }
     ensures { OnOk result (state.new ≡ all_asked state.old (conditions_of instr.now (stack_of state.old.stage) choice.now)) }
 {
-    match instr {
-        Instr::IfInt(cond, _) => match an_int(state) {
-            Some(x) => ask_branch(state, *cond, Side::Term(x), Side::Number(0), choice),
-            None => Ok(()),
-        },
-        Instr::IfPair(cond, _) => match two_ints(state) {
-            Some((left, right)) => ask_branch(
-                state,
-                *cond,
-                Side::Term(left),
-                Side::Term(right),
-                choice,
-            ),
-            None => Ok(()),
-        },
-        Instr::Table(low, _, targets) => match an_int(state) {
-            Some(x) => ask_key(state, x, &Keys::Table(*low, targets.as_slice()), choice),
-            None => Ok(()),
-        },
-        Instr::Lookup(_, keys) => match an_int(state) {
-            Some(x) => ask_key(state, x, &Keys::Lookup(keys.as_slice()), choice),
-            None => Ok(()),
-        },
-        Instr::Int2(op) => match two_ints(state) {
-            Some((_, right)) => ask_division(state, *op, right, choice),
-            None => Ok(()),
-        },
-        _ => Ok(()),
+    match question_of(state, instr) {
+        Some(question) => answer(state, &question, choice),
+        None => Ok(()),
+    }
+}
+
+// Adds the conditions that an alternative of what is to be told asks for.
+fn answer(state: &mut SymState, question: &IntQuestion<'_>, choice: &Choice) -> Result<(), NoMemory>
+    requires { HasTermsOf state.old.nodes question.now }
+    ensures { OnOk result (state.new ≡ all_asked state.old (asks_for question.now choice.now)) }
+{
+    match question {
+        IntQuestion::Branch(cond, left, right) => ask_branch(state, *cond, *left, *right, choice),
+        IntQuestion::Key(x, keys) => ask_key(state, *x, keys, choice),
+        IntQuestion::Divisor(x) => ask_divisor(state, *x, choice),
     }
 }
 
@@ -156,21 +144,6 @@ fn ask_branch(
 {
     match choice {
         Choice::Branch(so) => ask(state, &branch_condition(cond, left, right, *so)),
-        _ => Ok(()),
-    }
-}
-
-fn ask_division(
-    state: &mut SymState,
-    op: IntOp,
-    divisor: TermId,
-    choice: &Choice,
-) -> Result<(), NoMemory>
-    requires { IsTerm state.old.nodes divisor }
-    ensures { OnOk result (state.new ≡ all_asked state.old (division_conditions op divisor choice.now)) }
-{
-    match op {
-        IntOp::Div | IntOp::Rem => ask_divisor(state, divisor, choice),
         _ => Ok(()),
     }
 }

@@ -13,7 +13,7 @@ use Rattle.kb_heap.specs.declared.heap.Object.{Object}
 use Rattle.kb_heap.specs.declared.heap.Value.{Value}
 use Rattle.kb_heap.specs.declared.heap.Value.TheVariants.{Int as IntValue, Ref}
 use Rattle.kb_heap.specs.Heap.{value_at, literal}
-use Rattle.kb_link.specs.World.{World}
+use Rattle.kb_classes.specs.World.{World}
 use Rattle.kb_names.specs.declared.types.JType.{JType}
 use Rattle.kb_semantics.specs.Config.{Config}
 use Rattle.kb_semantics.specs.Step.{first_heap}
@@ -63,17 +63,18 @@ use Rattle.kb_ways.proofs.OneInstances.{hold_last, many_values, value_inputs}
 use Rattle.kb_ways.proofs.OutcomeValues.{reading_int}
 use Rattle.kb_lazy.proofs.FitLaws.{fitting_choice}
 use Rattle.kb_lazy.specs.Choices.{read_choices_of}
-use Rattle.kb_stepref.specs.Choices.{alternatives, only}
+use Rattle.kb_stepref.specs.Choices.{alternatives}
+use Rattle.kb_ways.specs.Advancing.{only}
 use Rattle.kb_lazy.specs.Laws.{AreInRange}
 use Rattle.kb_stepref.specs.Laws.{IsAtReferences}
 use Rattle.kb_ways.specs.declared.question.Question.TheVariants.{Reads}
 use Rattle.kb_ways.specs.Questions.{answered, passed_by}
-use Rattle.kb_ways.proofs.AlikeLaws.{AreAlike, stage_alike, values_alike}
-use Rattle.kb_stepref.proofs.CellLaws.{chosen_blank}
-use Rattle.kb_stepref.proofs.FindLaws.{Grows, grown_alike, learns_none, learns_slot, places_same, read_places}
+use Rattle.kb_frames.proofs.AlikeLaws.{AreAlike, stage_alike, values_alike}
+use Rattle.kb_frames.proofs.CellLaws.{chosen_blank}
+use Rattle.kb_frames.proofs.FindLaws.{Grows, grown_alike, learns_none, learns_slot, places_same, read_places}
 use Rattle.kb_stepref.proofs.ReadInstances.{int_values, told_values}
 use Rattle.kb_stepref.proofs.FirstReadLaws.{IsAsked, IsAskedAt, first_read}
-use Rattle.kb_stepref.proofs.LearnLaws.{Learns, heap_learns, written_back, written_more}
+use Rattle.kb_frames.proofs.LearnLaws.{Learns, heap_learns, written_back, written_more}
 
 -- nothing is kept of the slot: an argument is the next one, and the cell of a slot of an object is untouched
 abbrev pub IsBlank : State → Origin → Type 0

@@ -10,8 +10,8 @@ use Rattle.kb_class.proofs.Lists.{has_left, has_right}
 use Rattle.kb_class.specs.Naming.{Has}
 use Rattle.kb_class.specs.declared.ids.MethodId.{MethodId}
 use Rattle.kb_heap.specs.declared.bounds.Bounds.{Bounds}
-use Rattle.kb_link.proofs.Places.{get_pushed}
-use Rattle.kb_link.specs.World.{World}
+use Rattle.kb_classes.proofs.Places.{get_pushed}
+use Rattle.kb_classes.specs.World.{World}
 use Rattle.kb_names.specs.declared.types.ExactType.{ExactType}
 use Rattle.kb_names.specs.declared.types.JType.{JType}
 use Rattle.kb_semantics.specs.Looks.{numbers_below}
@@ -30,11 +30,13 @@ use Rattle.kb_picture.specs.declared.picture.Origin.TheVariants.{Arg, Field, Ele
 use Rattle.kb_picture.specs.declared.picture.PicObject.{PicObject}
 use Rattle.kb_picture.specs.declared.picture.Picture.{Picture}
 use Rattle.kb_picture.specs.declared.picture.Seen.{Seen}
-use Rattle.kb_picture.specs.Growing.{IsChoiceFor, IsChoiceIn, is_receiver}
+use Rattle.kb_picture.specs.Finding.{IsFoundFirst}
+use Rattle.kb_picture.specs.Growing.{IsChoiceFor, IsChoiceIn, is_receiver, params_of}
 use Rattle.kb_picture.specs.Growth.{after_int_read, after_read}
 use Rattle.kb_picture.specs.Queries.{kind_for, kind_seen, kinds_seen, type_of_slot}
 use Rattle.kb_picture.specs.WellFormed.{IsLengthOf, slots_seen, variable_seen, variables_seen}
 use Rattle.kb_picture.specs.WellTyped.{IsReceiverSeen, IsWellTyped, SeenFitsDeclared, is_reference_type}
+use Rattle.kb_picture.proofs.FoundLaws.{choice_found, int_found}
 use Rattle.kb_picture.proofs.GrownPictures.{IsFrontOf, slots_grown}
 use Rattle.kb_picture.proofs.GrownTypes.{choice_typed, int_typed, type_more}
 use Rattle.kb_lazy.specs.Choices.{read_choices_of}
@@ -52,17 +54,18 @@ use Rattle.kb_frames.specs.Heaps.{find_cell, with_cell}
 use Rattle.kb_frames.specs.State.{State, cell_at}
 use Rattle.kb_frames.specs.States.{Each, HasCells, IsBeginning, IsCell, IsStage, IsSymValue, IsTouched}
 use Rattle.kb_ways.specs.Reached.{HasReadReceiver}
-use Rattle.kb_ways.proofs.ItemLaws.{each_append, each_cons, each_copy, no_items}
+use Rattle.kb_frames.proofs.ItemLaws.{each_append, each_cons, each_copy, no_items}
 use Rattle.kb_ways.proofs.SoundLaws.{Sound, sound_reached}
 use Rattle.kb_stepref.specs.Choices.{alternatives}
 use Rattle.kb_stepref.specs.Laws.{IsAtReferences}
 use Rattle.kb_ways.specs.declared.question.Question.TheVariants.{Reads}
 use Rattle.kb_stepref.specs.Questions.{question_of}
 use Rattle.kb_ways.specs.Questions.{answered}
-use Rattle.kb_stepref.proofs.CellLaws.{front_found, front_touched, with_cell_length, with_here, with_touched}
+use Rattle.kb_frames.proofs.CellLaws.{front_found, front_touched, with_cell_length, with_here, with_touched}
 use Rattle.kb_stepref.proofs.FieldSlots.{get_front}
 use Rattle.kb_stepref.proofs.FirstReadLaws.{IsAsked, IsAskedAt, asked, first_read, holds_int}
-use Rattle.kb_stepref.proofs.MoreLaws.{HaveRows, IsMore, changed, changed_sound, made_more, rows_joined, rows_more, rows_with, running_more, values_more}
+use Rattle.kb_frames.proofs.MoreLaws.{HaveRows, IsMore, made_more, rows_joined, rows_more, rows_with, running_more, values_more}
+use Rattle.kb_stepref.proofs.MoreLaws.{changed, changed_sound}
 use Rattle.kb_names.specs.declared.types.ExactType.TheVariants as exact
 use Rattle.kb_picture.specs.declared.choice.Choice.TheVariants as choices
 use Rattle.kb_picture.specs.declared.picture.Seen.TheVariants as seens
@@ -202,6 +205,7 @@ kinds_kept world id old new slot how typed front seen plain =
 -- The picture, the cells and the terms of a state that was told that the slot holds the value.
 pub record Tells (world : World) (state : State) (slot : Origin) (value : SymValue) (picture : Picture) (cells : List (List Cell)) (nodes : List Node) : Type 0 where
   pub typed : IsWellTyped world state.method picture
+  pub first : IsFoundFirst picture
   pub terms : Extends state.nodes nodes
   pub kinds : kinds_of nodes ≡ kinds_seen world state.method picture
   pub slots : slots_seen picture ≡ slots_seen state.picture ++ slot ∷ []
@@ -276,7 +280,7 @@ module _ (world : World) (state : State) (sound : Sound world state) (slot : Ori
     pub argument_sound : Sound world (record state { stage = with_read state.stage value; picture = picture; cells = cells; nodes = nodes })
     argument_sound =
         subst (λ (stage : Stage). Sound world (record state { stage = with_read stage value; picture = picture; cells = cells; nodes = nodes })) (sym begins)
-        (changed_sound world state (Begins (read ++ value ∷ [])) picture cells state.made nodes sound tells.terms tells.typed tells.kinds read_stage
+        (changed_sound world state (Begins (read ++ value ∷ [])) picture cells state.made nodes sound tells.terms tells.typed tells.first tells.kinds read_stage
         (record {
           count = tells.count;
           each = tells.rows read_state read_more;
@@ -307,7 +311,7 @@ module _ (world : World) (state : State) (sound : Sound world state) (slot : Ori
 
     pub field_sound : Sound world (record state { picture = picture; cells = all; nodes = nodes })
     field_sound =
-        changed_sound world state state.stage picture all state.made nodes sound tells.terms tells.typed tells.kinds
+        changed_sound world state state.stage picture all state.made nodes sound tells.terms tells.typed tells.first tells.kinds
         (subst (IsStage world told_state) (sym running) (running_more world state told_state told_more frame callers (subst (IsStage world state) running sound.stage)))
         (record {
           count = with_cell_length cells object place (Read value) ∙ tells.count;
@@ -371,6 +375,7 @@ module _ (world : World) (bounds : Bounds) (state : State) (at : IsAtReferences 
     pub tells_reference : Tells world state slot (value_chosen state.picture choice) picture cells state.nodes
     tells_reference = record {
       typed = choice_typed world state.method state.picture slot typed is_asked.unread choice fits;
+      first = choice_found world (params_of world typed.method) state.picture slot is_asked.unread sound.found choice;
       terms = Extends-refl state.nodes;
       kinds = sound.kinds ∙ sym (kinds_kept world state.method state.picture picture slot added.how typed objects_front added.seen added.plain);
       slots = slots_grown state.picture picture slot added.how added.seen;
@@ -434,6 +439,7 @@ module _ (world : World) (bounds : Bounds) (state : State) (at : IsAtReferences 
     unfolding after_int_read
     tells_int = record {
       typed = int_typed world state.method state.picture slot typed is_asked.unread (holds_int world bounds state typed slot type is_asked int);
+      first = int_found world (params_of world typed.method) state.picture slot is_asked.unread sound.found;
       terms = extends-more state.nodes (Var v kind);
       kinds = one_kind;
       slots = slots_grown state.picture seen slot (seens.Int (length (variables_seen state.picture))) refl;

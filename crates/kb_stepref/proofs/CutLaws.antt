@@ -14,9 +14,9 @@ use Rattle.kb_heap.specs.declared.heap.Input.{Input}
 use Rattle.kb_lazy.proofs.FitLaws.{fitting_choice}
 use Rattle.kb_lazy.specs.Choices.{aliases, aliases_from, all_new, beyond_where, fresh_objects, has_fitting, location_where, new_objects, null_unless, read_choices_of}
 use Rattle.kb_lazy.specs.Laws.{IsFirstRead, AreInRange}
-use Rattle.kb_link.proofs.Places.{get_last}
-use Rattle.kb_link.specs.Subtypes.{fits}
-use Rattle.kb_link.specs.World.{World}
+use Rattle.kb_classes.proofs.Places.{get_last}
+use Rattle.kb_classes.specs.Subtypes.{fits}
+use Rattle.kb_classes.specs.World.{World}
 use Rattle.kb_names.specs.declared.types.ExactType.{ExactType}
 use Rattle.kb_names.specs.declared.types.ExactType.TheVariants as exact
 use Rattle.kb_names.specs.declared.types.JType.{JType}
@@ -44,7 +44,8 @@ use Rattle.kb_picture.specs.WellTyped.{is_reference_type}
 use Rattle.kb_frames.specs.StandsFor.{IsInstanceOf}
 use Rattle.kb_frames.specs.State.{State}
 use Rattle.kb_picture.specs.Queries.{kind_for}
-use Rattle.kb_stepref.specs.Choices.{alternatives, only}
+use Rattle.kb_stepref.specs.Choices.{alternatives}
+use Rattle.kb_ways.specs.Advancing.{only}
 use Rattle.kb_stepref.specs.Laws.{IsAtReferences}
 use Rattle.kb_ways.specs.declared.question.Question.TheVariants.{Reads}
 use Rattle.kb_stepref.specs.Questions.{question_of}

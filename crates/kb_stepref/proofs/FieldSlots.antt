@@ -12,18 +12,18 @@ use Rattle.kb_class.specs.declared.members.FieldInfo.{FieldInfo}
 use Rattle.kb_class.specs.declared.members.MemberKind.{MemberKind}
 use Rattle.kb_class.specs.declared.members.MemberKind.TheVariants as kinds
 use Rattle.kb_class.specs.Members.{is_static}
-use Rattle.kb_link.proofs.SlotLaws.{numbered_behind}
+use Rattle.kb_classes.proofs.SlotLaws.{numbered_behind}
 use Rattle.kb_link.specs.Links.{IsLinked}
-use Rattle.kb_link.specs.Slots.{Declared, has_slot, has_slot_type, numbered, own_slots_at, own_slots_there, slot_of, slots_among, slots_of}
-use Rattle.kb_link.specs.Subtypes.{IsChain}
-use Rattle.kb_link.specs.World.{World, chain_of, number_in, parent_in}
-use Rattle.kb_link.specs.declared.slots.FieldSlot.{FieldSlot}
+use Rattle.kb_classes.specs.Slots.{Declared, has_slot, has_slot_type, numbered, own_slots_at, own_slots_there, slot_of, slots_among, slots_of}
+use Rattle.kb_classes.specs.Subtypes.{IsChain}
+use Rattle.kb_classes.specs.World.{World, chain_of, number_in, parent_in}
+use Rattle.kb_classes.specs.declared.slots.FieldSlot.{FieldSlot}
 use Rattle.kb_names.specs.declared.types.ExactType.{ExactType}
 use Rattle.kb_names.specs.declared.types.ExactType.TheVariants as exact
 use Rattle.kb_names.specs.declared.types.JType.{JType}
 use Rattle.kb_semantics.specs.Instructions.{has_field}
 use Rattle.kb_semantics.specs.Values.{slots_of_class}
-use Rattle.kb_world.specs.Lookup.{class_of_sought, is_slot, resolved_field, slot_among, slot_in_class, slot_of_sought, sought_at}
+use Rattle.kb_resolution.specs.Lookup.{class_of_sought, is_slot, resolved_field, slot_among, slot_in_class, slot_of_sought, sought_at}
 use Rattle.kb_picture.specs.Queries.{slot_of_class}
 use Rattle.kb_picture.specs.WellFormed.{HasSlot}
 

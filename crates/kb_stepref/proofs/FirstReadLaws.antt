@@ -8,9 +8,9 @@ use Rattle.kb_code.specs.declared.instruction.Instr.{Instr}
 use Rattle.kb_code.specs.declared.instruction.Instr.TheVariants as instrs
 use Rattle.kb_heap.specs.declared.bounds.Bounds.{Bounds}
 use Rattle.kb_link.specs.Links.{IsLinked}
-use Rattle.kb_link.specs.Slots.{has_slot_type, slots_of}
-use Rattle.kb_link.specs.World.{World}
-use Rattle.kb_link.specs.declared.slots.FieldSlot.{FieldSlot}
+use Rattle.kb_classes.specs.Slots.{has_slot_type, slots_of}
+use Rattle.kb_classes.specs.World.{World}
+use Rattle.kb_classes.specs.declared.slots.FieldSlot.{FieldSlot}
 use Rattle.kb_names.specs.declared.types.ExactType.{ExactType}
 use Rattle.kb_names.specs.declared.types.JType.{JType}
 use Rattle.kb_names.specs.declared.types.JType.TheVariants as types
@@ -44,7 +44,7 @@ use Rattle.kb_stepref.specs.Laws.{IsAtReferences}
 use Rattle.kb_ways.specs.declared.question.Question.{Question}
 use Rattle.kb_ways.specs.declared.question.Question.TheVariants.{Reads}
 use Rattle.kb_stepref.specs.Questions.{asked_at, asked_by, asks_cell, asks_field, question_of}
-use Rattle.kb_stepref.proofs.CellLaws.{found_cell}
+use Rattle.kb_frames.proofs.CellLaws.{found_cell}
 use Rattle.kb_stepref.proofs.FieldSlots.{resolved_at, slot_in, slot_typed}
 
 -- ---- what is asked for

@@ -11,10 +11,10 @@ use Rattle.kb_code.specs.declared.instruction.Instr.TheVariants as instrs
 use Rattle.kb_heap.specs.declared.bounds.Bound.{Bound}
 use Rattle.kb_heap.specs.declared.bounds.Bounds.{Bounds}
 use Rattle.kb_heap.specs.declared.heap.Input.{Input}
-use Rattle.kb_link.specs.World.{World}
-use Rattle.kb_link.specs.declared.slots.FieldSlot.{FieldSlot}
+use Rattle.kb_classes.specs.World.{World}
+use Rattle.kb_classes.specs.declared.slots.FieldSlot.{FieldSlot}
 use Rattle.kb_names.specs.declared.types.JType.{JType}
-use Rattle.kb_world.specs.Lookup.{resolved_field}
+use Rattle.kb_resolution.specs.Lookup.{resolved_field}
 use Rattle.kb_semantics.specs.Config.{Config, class_number, instruction_at}
 use Rattle.kb_semantics.specs.Inputs.{IsTypeCorrect}
 use Rattle.kb_terms.specs.declared.node.Node.TheVariants.{Var}
@@ -43,7 +43,8 @@ use Rattle.kb_ways.proofs.GrowLaws.{if_has}
 use Rattle.kb_ways.proofs.OneAsked.{conditions_there}
 use Rattle.kb_ways.proofs.OneInstances.{met_of_instance}
 use Rattle.kb_ways.proofs.ValueLaws.{IsOrdered, ordered_more, pool_ordered}
-use Rattle.kb_stepref.specs.Choices.{alternatives, only}
+use Rattle.kb_stepref.specs.Choices.{alternatives}
+use Rattle.kb_ways.specs.Advancing.{only}
 use Rattle.kb_stepref.specs.Fields.{field_named, has_slot_of}
 use Rattle.kb_ways.specs.Built.{is_reference_instruction}
 use Rattle.kb_lazy.specs.Laws.{AreInRange}

@@ -6,8 +6,8 @@ use Rattle.kb_code.specs.declared.instruction.Instr.{Instr}
 use Rattle.kb_code.specs.declared.instruction.Instr.TheVariants as instrs
 use Rattle.kb_heap.specs.declared.bounds.Bound.{Bound}
 use Rattle.kb_heap.specs.declared.bounds.Bounds.{Bounds}
-use Rattle.kb_link.specs.World.{World}
-use Rattle.kb_link.specs.declared.slots.FieldSlot.{FieldSlot}
+use Rattle.kb_classes.specs.World.{World}
+use Rattle.kb_classes.specs.declared.slots.FieldSlot.{FieldSlot}
 use Rattle.kb_names.specs.declared.types.JType.{JType}
 use Rattle.kb_semantics.specs.Config.{has_room, instruction_at}
 use Rattle.kb_terms.specs.declared.node.TermId.{TermId}
@@ -55,7 +55,7 @@ use Rattle.kb_stepref.specs.Takes.{taken}
 use Rattle.kb_stepref.proofs.FirstReadLaws.{IsAsked, asked}
 use Rattle.kb_picture.specs.declared.choice.Choice.TheVariants.{Only}
 use Rattle.kb_ways.proofs.KeptLaws.{returns_has, kept_more}
-use Rattle.kb_ways.proofs.ItemLaws.{only_has}
+use Rattle.kb_frames.proofs.ItemLaws.{only_has}
 
 -- ---- what an instruction writes
 
@@ -323,7 +323,7 @@ module _ (world : World) (bounds : Bounds) (old : State) (choice : Choice) where
 
   -- ---- what is compared
 
-  taken_when : (taken world bounds old choice).state.when ≡ old.when
+  pub taken_when : (taken world bounds old choice).state.when ≡ old.when
   taken_when =
       option_has (λ (take : Take). take.state.when ≡ old.when) (question_of world old bounds) (answers plan_of world bounds choice old) (takes_next plan_of world bounds Only old)
       (λ question. (answers_untold world bounds choice old question).when ∙ answered_when world choice old question) (takes_next_untold world bounds old).when

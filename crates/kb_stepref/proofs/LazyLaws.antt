@@ -4,8 +4,8 @@ use Rattle.std.proofs.Common.{◌≡◌, ℕ, inl, inr, Bool, true, false, cond,
 use Rattle.std.specs.List.{AllByRecursion, flat_map}
 use Rattle.kb_class.proofs.Lists.{has_cases, has_either, has_none}
 use Rattle.kb_class.specs.Naming.{Has}
-use Rattle.kb_link.specs.Subtypes.{fits}
-use Rattle.kb_link.specs.World.{World}
+use Rattle.kb_classes.specs.Subtypes.{fits}
+use Rattle.kb_classes.specs.World.{World}
 use Rattle.kb_names.specs.declared.types.ExactType.{ExactType}
 use Rattle.kb_names.specs.declared.types.ExactType.TheVariants as exact
 use Rattle.kb_names.specs.declared.types.JType.{JType}
@@ -31,8 +31,9 @@ use Rattle.kb_stepref.proofs.FieldSlots.{all_joined}
 
 -- ---- what is offered
 
--- the choice is no location
+-- something was chosen, and no location
 abbrev pub IsKnown : Choice → Type 0
+IsKnown choices.Only = ⊥
 IsKnown choices.Location = ⊥
 IsKnown _ = Unit {0}
 

@@ -14,8 +14,8 @@ use Rattle.kb_heap.specs.declared.heap.Object.{Object}
 use Rattle.kb_heap.specs.declared.heap.Value.{Value}
 use Rattle.kb_heap.specs.declared.heap.Value.TheVariants.{Ref}
 use Rattle.kb_heap.specs.Heap.{object_at, value_at, literal}
-use Rattle.kb_link.specs.World.{World}
-use Rattle.kb_link.specs.declared.slots.FieldSlot.{FieldSlot}
+use Rattle.kb_classes.specs.World.{World}
+use Rattle.kb_classes.specs.declared.slots.FieldSlot.{FieldSlot}
 use Rattle.kb_names.specs.declared.types.ExactType.{ExactType}
 use Rattle.kb_names.specs.declared.types.ExactType.TheVariants as exact
 use Rattle.kb_semantics.specs.Inputs.{HasValuesOf, IsInputObject, IsTypeCorrect}
@@ -43,7 +43,7 @@ use Rattle.kb_ways.proofs.OutcomeWays.{no_place}
 use Rattle.kb_stepref.specs.Fields.{cell_of, has_place, has_slot_of, held, made_value_of}
 use Rattle.kb_stepref.specs.Comparing.{same}
 use Rattle.kb_stepref.specs.Questions.{asks_cell, asks_field}
-use Rattle.kb_stepref.proofs.CellLaws.{found_cell}
+use Rattle.kb_frames.proofs.CellLaws.{found_cell}
 use Rattle.kb_stepref.proofs.ReferenceLaws.{IsReference, referred}
 
 -- ---- lists

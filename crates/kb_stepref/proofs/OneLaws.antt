@@ -7,7 +7,7 @@ use Rattle.kb_heap.specs.declared.heap.Input.{Input}
 use Rattle.kb_lazy.proofs.TakesLaws.{one_taken}
 use Rattle.kb_lazy.specs.Choices.{read_choices_of}
 use Rattle.kb_lazy.specs.Laws.{Takes}
-use Rattle.kb_link.specs.World.{World}
+use Rattle.kb_classes.specs.World.{World}
 use Rattle.kb_names.specs.declared.types.JType.{JType}
 use Rattle.kb_semantics.specs.Config.{Config}
 use Rattle.kb_semantics.specs.Inputs.{IsTypeCorrect}
@@ -34,7 +34,8 @@ use Rattle.kb_ways.specs.Simulation.{TakesOneWay}
 use Rattle.kb_ways.specs.Ways.{Take}
 use Rattle.kb_ways.proofs.OneAsked.{conditions_there}
 use Rattle.kb_ways.proofs.OneInstances.{instance_of_met}
-use Rattle.kb_stepref.specs.Choices.{alternatives, choices_of, only}
+use Rattle.kb_stepref.specs.Choices.{alternatives, choices_of}
+use Rattle.kb_ways.specs.Advancing.{only}
 use Rattle.kb_stepref.specs.Laws.{IsAtReferences}
 use Rattle.kb_ways.specs.declared.question.Question.{Question}
 use Rattle.kb_ways.specs.declared.question.Question.TheVariants.{Reads}

@@ -9,10 +9,10 @@ use Rattle.kb_heap.specs.declared.heap.Object.{Object}
 use Rattle.kb_heap.specs.declared.heap.Value.{Value}
 use Rattle.kb_heap.specs.declared.heap.Value.TheVariants.{Null as NullValue, Ref}
 use Rattle.kb_heap.specs.Heap.{object_at}
-use Rattle.kb_link.specs.World.{World}
-use Rattle.kb_link.specs.declared.slots.FieldSlot.{FieldSlot}
+use Rattle.kb_classes.specs.World.{World}
+use Rattle.kb_classes.specs.declared.slots.FieldSlot.{FieldSlot}
 use Rattle.kb_names.specs.declared.types.JType.{JType}
-use Rattle.kb_world.specs.Lookup.{resolved_field, only_where}
+use Rattle.kb_resolution.specs.Lookup.{resolved_field, only_where}
 use Rattle.kb_semantics.specs.Config.{Setting, Config, Outcome, class_number, local_of, max_locals_of, result_of}
 use Rattle.kb_semantics.specs.Inputs.{IsTypeCorrect}
 use Rattle.kb_semantics.specs.Instructions.{field_of, is_wanted, on_object, same_reference, sets_local, with, is_null as is_null_reference}
@@ -29,7 +29,7 @@ use Rattle.kb_frames.specs.StandsFor.{FrameStandsFor, StandsFor, reading_at, val
 use Rattle.kb_frames.specs.State.{State}
 use Rattle.kb_frames.specs.States.{IsSymValue}
 use Rattle.kb_ways.specs.Ways.{with_stack}
-use Rattle.kb_ways.proofs.ItemLaws.{two_parts}
+use Rattle.kb_frames.proofs.ItemLaws.{two_parts}
 use Rattle.kb_ways.proofs.LocalLaws.{led_to, local_set, local_value}
 use Rattle.kb_ways.proofs.SoundLaws.{Sound}
 use Rattle.kb_ways.specs.Kept.{kept as sym_kept, is_of_kind}

@@ -21,7 +21,7 @@ use Rattle.kb_frames.specs.declared.value.SymValue.{SymValue}
 use Rattle.kb_frames.specs.Heaps.{find_cell, with_cell, object_with as sym_object_with}
 use Rattle.kb_frames.specs.StandsFor.{HeapStandsFor, IsKept, IsLike, made_at, present_value, value_of_sym, values_of_sym}
 use Rattle.kb_frames.specs.State.{State, cell_at}
-use Rattle.kb_stepref.proofs.CellLaws.{with_here, with_other}
+use Rattle.kb_frames.proofs.CellLaws.{with_here, with_other}
 
 -- each place is one of an object of the input
 abbrev pub AreInside : Reading → Type 0

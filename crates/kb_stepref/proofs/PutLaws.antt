@@ -14,11 +14,11 @@ use Rattle.kb_heap.specs.declared.heap.Object.{Object}
 use Rattle.kb_heap.specs.declared.heap.Value.{Value}
 use Rattle.kb_heap.specs.declared.heap.Value.TheVariants.{Int as IntValue, Ref}
 use Rattle.kb_heap.specs.Heap.{object_at, with_object_at, with_value}
-use Rattle.kb_link.specs.World.{World}
-use Rattle.kb_link.specs.declared.slots.FieldSlot.{FieldSlot}
+use Rattle.kb_classes.specs.World.{World}
+use Rattle.kb_classes.specs.declared.slots.FieldSlot.{FieldSlot}
 use Rattle.kb_names.specs.declared.types.JType.{JType}
 use Rattle.kb_names.specs.declared.types.JType.TheVariants as types
-use Rattle.kb_world.specs.Lookup.{only_where, resolved_field}
+use Rattle.kb_resolution.specs.Lookup.{only_where, resolved_field}
 use Rattle.kb_semantics.specs.Config.{Setting, Config, Frame, Outcome, class_number, has_room}
 use Rattle.kb_semantics.specs.Inputs.{IsTypeCorrect}
 use Rattle.kb_semantics.specs.Instructions.{field_of, on_object, put_field, with}
@@ -53,7 +53,7 @@ use Rattle.kb_ways.specs.Kept.{kept as sym_kept, masked, kept_in, is_of_kind}
 use Rattle.kb_ways.specs.Simulation.{IsOutcome}
 use Rattle.kb_ways.specs.Ways.{Take, Goes, Fails, carries_out, ill_typed, went}
 use Rattle.kb_ways.proofs.GrowLaws.{interned_extends, op_extends}
-use Rattle.kb_ways.proofs.ItemLaws.{each_drop, two_parts}
+use Rattle.kb_frames.proofs.ItemLaws.{each_drop, two_parts}
 use Rattle.kb_ways.proofs.OutcomeStands.{none_standing}
 use Rattle.kb_ways.proofs.OutcomeValues.{IsLater, frame_later, heap_later, reading_int, reading_later, there}
 use Rattle.kb_ways.proofs.OutcomeWays.{ill_typed_is, room_same, throws_is, writes_stand}

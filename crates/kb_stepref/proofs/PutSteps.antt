@@ -1,8 +1,8 @@
 -- A putfield writes a slot and leaves the frame as it is, so that it goes on with the stack from before without its operands.
 use Rattle.std.proofs.Common.{◌≡◌, ℕ, Bool, true, Option, Some, length, drop, refl, sym, ap, ◌∙◌, if◌then◌else◌}
 use Rattle.kb_heap.specs.declared.bounds.Bounds.{Bounds}
-use Rattle.kb_link.specs.World.{World}
-use Rattle.kb_link.specs.declared.slots.FieldSlot.{FieldSlot}
+use Rattle.kb_classes.specs.World.{World}
+use Rattle.kb_classes.specs.declared.slots.FieldSlot.{FieldSlot}
 use Rattle.kb_semantics.specs.Config.{has_room}
 use Rattle.kb_frames.specs.declared.state.Stage.{Stage}
 use Rattle.kb_frames.specs.declared.value.SymValue.{SymValue}

@@ -6,7 +6,7 @@ use Rattle.kb_class.proofs.Lists.{all_has}
 use Rattle.kb_class.specs.Naming.{Has}
 use Rattle.kb_heap.specs.declared.bounds.Bound.{Bound}
 use Rattle.kb_heap.specs.declared.bounds.Bounds.{Bounds}
-use Rattle.kb_link.specs.World.{World}
+use Rattle.kb_classes.specs.World.{World}
 use Rattle.kb_names.specs.declared.types.JType.{JType}
 use Rattle.kb_terms.specs.Terms.{IsPool}
 use Rattle.kb_picture.specs.Growing.{is_receiver}
@@ -34,7 +34,8 @@ use Rattle.kb_ways.specs.Simulation.{HasInputOfState}
 use Rattle.kb_ways.specs.Ways.{Take}
 use Rattle.kb_ways.proofs.SoundLaws.{Sound, begun_sound, reached_sound, sound_reached}
 use Rattle.kb_ways.proofs.TakeLaws.{sound_terms}
-use Rattle.kb_stepref.specs.Choices.{alternatives, only}
+use Rattle.kb_stepref.specs.Choices.{alternatives}
+use Rattle.kb_ways.specs.Advancing.{only}
 use Rattle.kb_stepref.specs.Laws.{IsAtReferences, OfTakes}
 use Rattle.kb_ways.specs.declared.question.Question.{Question}
 use Rattle.kb_ways.specs.declared.question.Question.TheVariants.{Reads}

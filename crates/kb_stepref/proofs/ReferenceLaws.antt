@@ -17,7 +17,7 @@ use Rattle.kb_frames.specs.StandsFor.{value_of_sym, values_of_sym}
 use Rattle.kb_stepref.specs.Comparing.{is_null}
 use Rattle.kb_ways.specs.Operands.{an_object_and_value as object_and_value, of_kind, a_reference as one_reference, reference, two_references}
 use Rattle.kb_ways.specs.Kept.{is_of_kind, kept_in}
-use Rattle.kb_world.specs.Lookup.{only_where}
+use Rattle.kb_resolution.specs.Lookup.{only_where}
 use Rattle.kb_frames.specs.State.{State}
 
 -- ---- references

@@ -16,9 +16,9 @@ use Rattle.kb_heap.specs.declared.heap.Object.{Object}
 use Rattle.kb_heap.specs.declared.heap.Value.{Value}
 use Rattle.kb_heap.specs.declared.heap.Value.TheVariants.{Ref}
 use Rattle.kb_heap.specs.Heap.{object_at, value_at, literal}
-use Rattle.kb_link.proofs.MethodNumbers.{get_before}
-use Rattle.kb_link.specs.World.{World}
-use Rattle.kb_link.specs.declared.slots.FieldSlot.{FieldSlot}
+use Rattle.kb_classes.proofs.MethodNumbers.{get_before}
+use Rattle.kb_classes.specs.World.{World}
+use Rattle.kb_classes.specs.declared.slots.FieldSlot.{FieldSlot}
 use Rattle.kb_names.specs.declared.types.ExactType.{ExactType}
 use Rattle.kb_names.specs.declared.types.JType.{JType}
 use Rattle.kb_semantics.proofs.Progress.{Follows}
@@ -29,7 +29,7 @@ use Rattle.kb_semantics.specs.Instructions.{field_of, has_field, here}
 use Rattle.kb_semantics.specs.Looks.{Slot, at_most_one, field_slot, if_some, is_input, read_by, reads as reads_of, taken_up}
 use Rattle.kb_semantics.specs.Operands.{Reference, Taken, a_reference, reference_of, taken as taken_from, top_of}
 use Rattle.kb_semantics.specs.Step.{config_at, first_heap, next_config, step}
-use Rattle.kb_world.specs.Lookup.{only_where, resolved_field}
+use Rattle.kb_resolution.specs.Lookup.{only_where, resolved_field}
 use Rattle.kb_terms.proofs.Entries.{end-cases, slice_get-take}
 use Rattle.kb_picture.specs.declared.choice.Choice.{Choice}
 use Rattle.kb_picture.specs.declared.choice.Choice.TheVariants as choices
@@ -70,7 +70,7 @@ use Rattle.kb_stepref.specs.Questions.{question_of}
 use Rattle.kb_ways.specs.Questions.{answers}
 use Rattle.kb_stepref.specs.Takes.{taken}
 use Rattle.kb_ways.specs.Plans.{takes_next}
-use Rattle.kb_stepref.proofs.CellLaws.{found_cell}
+use Rattle.kb_frames.proofs.CellLaws.{found_cell}
 use Rattle.kb_stepref.proofs.FirstReadLaws.{IsAsked, IsAskedField, asked}
 use Rattle.kb_stepref.proofs.KeepLaws.{int_tells, reference_tells, take_by, take_untold, takes_next_untold}
 use Rattle.kb_picture.specs.declared.choice.Choice.TheVariants.{Only}

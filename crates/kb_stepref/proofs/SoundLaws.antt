@@ -9,8 +9,8 @@ use Rattle.kb_code.specs.declared.instruction.Instr.TheVariants as instrs
 use Rattle.kb_heap.specs.declared.bounds.Bound.{Bound}
 use Rattle.kb_heap.specs.declared.bounds.Bound.TheVariants.{Steps}
 use Rattle.kb_heap.specs.declared.bounds.Bounds.{Bounds}
-use Rattle.kb_link.specs.World.{World}
-use Rattle.kb_link.specs.declared.slots.FieldSlot.{FieldSlot}
+use Rattle.kb_classes.specs.World.{World}
+use Rattle.kb_classes.specs.declared.slots.FieldSlot.{FieldSlot}
 use Rattle.kb_names.specs.declared.types.JType.{JType}
 use Rattle.kb_semantics.specs.Config.{has_room, instruction_at, max_locals_of}
 use Rattle.kb_semantics.specs.Instructions.{is_wanted}
@@ -34,11 +34,12 @@ use Rattle.kb_frames.specs.State.{State}
 use Rattle.kb_frames.specs.States.{Each, IsLocal, IsSymValue}
 use Rattle.kb_ways.specs.Ways.{with_stack, Take, Way, Goes, Jumps, Throws, Fails, ill_typed}
 use Rattle.kb_ways.proofs.GrowLaws.{if_has, option_has}
-use Rattle.kb_ways.proofs.ItemLaws.{each_cons, each_drop, each_set, option_has_at, only_has}
+use Rattle.kb_frames.proofs.ItemLaws.{each_cons, each_drop, each_set, option_has_at, only_has}
 use Rattle.kb_ways.proofs.KeepLaws.{went_stays}
 use Rattle.kb_ways.proofs.GoodWays.{IsGood, running_now, went_sound}
 use Rattle.kb_ways.proofs.SoundLaws.{Sound, begun_sound, frame_sound, receiver_seen, sound_reached}
-use Rattle.kb_stepref.specs.Choices.{alternatives, choices_of, only}
+use Rattle.kb_stepref.specs.Choices.{alternatives, choices_of}
+use Rattle.kb_ways.specs.Advancing.{only}
 use Rattle.kb_ways.specs.Plans.{Planned, plain, planned, carried_out, takes_next, takes_up, returns_value}
 use Rattle.kb_stepref.specs.Effects.{branch_where, got, in_local, is_local, plan_of, put, put_kept, put_where, puts_kept}
 use Rattle.kb_ways.specs.Kept.{kept_in, kept, is_of_kind}
@@ -54,7 +55,7 @@ use Rattle.kb_ways.specs.Questions.{answered, answers, cut_where, goes_behind, p
 use Rattle.kb_stepref.specs.Takes.{taken}
 use Rattle.kb_stepref.proofs.AnsweredLaws.{answered_receiver, answered_sound}
 use Rattle.kb_stepref.proofs.FirstReadLaws.{IsAskedAt, asked, where_so}
-use Rattle.kb_stepref.proofs.MoreLaws.{locals_more, values_more}
+use Rattle.kb_frames.proofs.MoreLaws.{locals_more, values_more}
 use Rattle.kb_stepref.proofs.WrittenLaws.{SoundBehind, held_there, kept_behind, put_kept_behind, sound_itself}
 use Rattle.kb_ways.proofs.KeptLaws.{returns_has, of_kind_is, reference_is}
 

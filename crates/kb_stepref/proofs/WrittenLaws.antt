@@ -3,8 +3,8 @@ use Rattle.std.proofs.Common.{◌≡◌, ℕ, List, length, Option, Some, None, 
 use Rattle.std.specs.Option.{option_map_or}
 use Rattle.std.proofs.lemmas.Option.{none-some, option_and_then_some, same_Some}
 use Rattle.kb_class.proofs.Lists.{set_size}
-use Rattle.kb_link.specs.World.{World}
-use Rattle.kb_link.specs.declared.slots.FieldSlot.{FieldSlot}
+use Rattle.kb_classes.specs.World.{World}
+use Rattle.kb_classes.specs.declared.slots.FieldSlot.{FieldSlot}
 use Rattle.kb_names.specs.declared.types.JType.{JType}
 use Rattle.kb_terms.proofs.Values.{Extends-refl, Extends-trans}
 use Rattle.kb_picture.specs.declared.picture.Origin.{Origin}
@@ -20,15 +20,16 @@ use Rattle.kb_frames.specs.declared.value.SymValue.TheVariants.{Int, Null, Obj, 
 use Rattle.kb_frames.specs.Heaps.{find_cell, made_value, object_with, value_of_cell, with_cell, with_made_value, wrote, wrote_made}
 use Rattle.kb_frames.specs.State.{State}
 use Rattle.kb_frames.specs.States.{Each, IsCell, IsMade, IsStage, IsSymValue, IsTouched}
-use Rattle.kb_ways.proofs.ItemLaws.{each_set}
-use Rattle.kb_ways.proofs.OutcomeValues.{cells_sound}
+use Rattle.kb_frames.proofs.ItemLaws.{each_set}
+use Rattle.kb_frames.proofs.MoreLaws.{cells_sound}
 use Rattle.kb_ways.proofs.SoundLaws.{Sound, nodes_sound}
 use Rattle.kb_ways.specs.Kept.{kept_in}
 use Rattle.kb_stepref.specs.Effects.{put_kept}
 use Rattle.kb_stepref.specs.Fields.{cell_of, has_slot_of, held, put_in}
-use Rattle.kb_stepref.proofs.CellLaws.{found_cell, with_cell_length, with_touched}
+use Rattle.kb_frames.proofs.CellLaws.{found_cell, with_cell_length, with_touched}
 use Rattle.kb_stepref.proofs.FirstReadLaws.{where_so}
-use Rattle.kb_stepref.proofs.MoreLaws.{IsMore, changed, changed_sound, made_more, rows_more, rows_with, running_more, value_more}
+use Rattle.kb_frames.proofs.MoreLaws.{IsMore, made_more, rows_more, rows_with, running_more, value_more}
+use Rattle.kb_stepref.proofs.MoreLaws.{changed, changed_sound}
 use Rattle.kb_ways.proofs.KeptLaws.{kept_more, kept_there}
 use Rattle.kb_ways.proofs.GrowLaws.{HasMore}
 
@@ -119,7 +120,7 @@ module _ (world : World) (state : State) (sound : Sound world state) (frame : Sy
 
     wrote_sound : Sound world (wrote number slot value state)
     wrote_sound =
-        changed_sound world state state.stage state.picture all state.made state.nodes sound (Extends-refl state.nodes) sound.typed sound.kinds (stage_more wrote_state wrote_more)
+        changed_sound world state state.stage state.picture all state.made state.nodes sound (Extends-refl state.nodes) sound.typed sound.found sound.kinds (stage_more wrote_state wrote_more)
         (record {
           count = with_cell_length state.cells number slot (Written value) ∙ sound.cells.count;
           each =
@@ -167,7 +168,7 @@ module _ (world : World) (state : State) (sound : Sound world state) (frame : Sy
 
     made_sound : Sound world (wrote_made number slot value state)
     made_sound =
-        changed_sound world state state.stage state.picture state.cells (with_made_value state.made number slot value) state.nodes sound (Extends-refl state.nodes) sound.typed sound.kinds
+        changed_sound world state state.stage state.picture state.cells (with_made_value state.made number slot value) state.nodes sound (Extends-refl state.nodes) sound.typed sound.found sound.kinds
         (stage_more made_state made_state_more)
         (record {
           count = sound.cells.count;

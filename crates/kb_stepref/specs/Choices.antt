@@ -1,22 +1,19 @@
 -- The alternatives of a step on references, in their order: those of its question, and the only way on where it asks nothing. A
 -- reference that is read for the first time has those of lazy initialisation (Khurshid, Păsăreanu and Visser, TACAS 2003); an
 -- int or a boolean is a new variable, and there is one way on.
-use Rattle.std.specs.Prelude.{List, [], ◌∷◌, if◌then◌else◌}
+use Rattle.std.specs.Prelude.{List, if◌then◌else◌}
 use Rattle.std.specs.Option.{option_map_or}
 use Rattle.kb_heap.specs.declared.bounds.Bounds.{Bounds}
-use Rattle.kb_link.specs.World.{World}
+use Rattle.kb_classes.specs.World.{World}
 use Rattle.kb_lazy.specs.Choices.{read_choices_of}
 use Rattle.kb_picture.specs.declared.choice.Choice.{Choice}
-use Rattle.kb_picture.specs.declared.choice.Choice.TheVariants.{Only}
 use Rattle.kb_picture.specs.Growing.{is_receiver}
 use Rattle.kb_picture.specs.WellTyped.{is_reference_type}
 use Rattle.kb_frames.specs.State.{State}
+use Rattle.kb_ways.specs.Advancing.{only}
 use Rattle.kb_ways.specs.declared.question.Question.{Question}
 use Rattle.kb_ways.specs.declared.question.Question.TheVariants.{Reads}
 use Rattle.kb_stepref.specs.Questions.{question_of}
-
-abbrev pub only : List Choice
-only = Only ∷ []
 
 -- those of a question
 abbrev pub alternatives : World → State → Bounds → Question → List Choice

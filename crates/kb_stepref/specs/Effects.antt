@@ -4,8 +4,8 @@
 use Rattle.std.specs.Prelude.{ℕ, Bool, List, ◌∷◌, length, drop, nat_lt, Some, None, cond, slice_set, if◌then◌else◌}
 use Rattle.kb_code.specs.declared.instruction.Instr.{Instr}
 use Rattle.kb_code.specs.declared.instruction.Instr.TheVariants as instrs
-use Rattle.kb_link.specs.World.{World}
-use Rattle.kb_link.specs.declared.slots.FieldSlot.{FieldSlot}
+use Rattle.kb_classes.specs.World.{World}
+use Rattle.kb_classes.specs.declared.slots.FieldSlot.{FieldSlot}
 use Rattle.kb_semantics.specs.Config.{has_room, max_locals_of}
 use Rattle.kb_semantics.specs.Instructions.{is_wanted}
 use Rattle.kb_semantics.specs.Ways.{null_pointer}

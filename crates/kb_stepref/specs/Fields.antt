@@ -1,12 +1,12 @@
 -- The fields of objects in a state (JVMS 8 section 6.5, getfield and putfield).
 use Rattle.std.specs.Prelude.{ℕ, Bool, false, is_some, Option, None, option_and_then, if◌then◌else◌}
 use Rattle.std.specs.Option.{option_map_or}
-use Rattle.kb_link.specs.World.{World}
-use Rattle.kb_link.specs.declared.slots.FieldSlot.{FieldSlot}
+use Rattle.kb_classes.specs.World.{World}
+use Rattle.kb_classes.specs.declared.slots.FieldSlot.{FieldSlot}
 use Rattle.kb_names.specs.declared.types.ExactType.{ExactType}
 use Rattle.kb_semantics.specs.Config.{class_number}
 use Rattle.kb_semantics.specs.Instructions.{has_field}
-use Rattle.kb_world.specs.Lookup.{resolved_field}
+use Rattle.kb_resolution.specs.Lookup.{resolved_field}
 use Rattle.kb_frames.specs.declared.value.Cell.{Cell}
 use Rattle.kb_frames.specs.declared.value.SymValue.{SymValue}
 use Rattle.kb_frames.specs.declared.value.SymValue.TheVariants.{Int, Null, Obj, Literal, New, Loc}

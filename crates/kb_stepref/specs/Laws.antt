@@ -3,7 +3,7 @@ use Rattle.std.specs.Prelude.{◌≡◌, false, []}
 use Rattle.kb_class.specs.Naming.{Has}
 use Rattle.kb_heap.specs.declared.bounds.Bounds.{Bounds}
 use Rattle.kb_link.specs.Links.{IsLinked}
-use Rattle.kb_link.specs.World.{World}
+use Rattle.kb_classes.specs.World.{World}
 use Rattle.kb_lazy.specs.Laws.{AreInRange, HasNoBeyond}
 use Rattle.kb_picture.specs.declared.choice.Choice.{Choice}
 use Rattle.kb_picture.specs.declared.choice.Init.TheVariants.{Lazy}

@@ -1,15 +1,16 @@
 -- What a step on references must be told before it can be carried out: what a slot holds that is read for the first time, an
 -- argument or a field (lazy initialisation: Khurshid, Păsăreanu and Visser, TACAS 2003). That a run begins by reading its
 -- arguments is an own rule.
-use Rattle.std.specs.Prelude.{ℕ, nat_le, Option, Some, None, option_and_then, slice_get, if◌then◌else◌}
+use Rattle.std.specs.Prelude.{ℕ, Bool, false, nat_le, Option, Some, None, option_and_then, slice_get, if◌then◌else◌}
 use Rattle.std.specs.Option.{option_map_or}
 use Rattle.kb_code.specs.declared.instruction.Instr.{Instr}
 use Rattle.kb_code.specs.declared.instruction.Instr.TheVariants as instrs
 use Rattle.kb_heap.specs.declared.bounds.Bounds.{Bounds}
-use Rattle.kb_link.specs.World.{World}
-use Rattle.kb_link.specs.declared.slots.FieldSlot.{FieldSlot}
+use Rattle.kb_classes.specs.World.{World}
+use Rattle.kb_classes.specs.declared.slots.FieldSlot.{FieldSlot}
 use Rattle.kb_names.specs.declared.types.JType.{JType}
 use Rattle.kb_picture.specs.declared.picture.Origin.TheVariants.{Arg, Field}
+use Rattle.kb_picture.specs.WellTyped.{is_reference_type}
 use Rattle.kb_frames.specs.declared.value.Cell.{Cell}
 use Rattle.kb_frames.specs.declared.value.Cell.TheVariants.{Untouched, Read, Written}
 use Rattle.kb_frames.specs.declared.value.SymValue.{SymValue}
@@ -51,3 +52,8 @@ asked_at world state bounds =
 abbrev pub question_of : World → State → Bounds → Option Question
 question_of world state bounds =
     option_map_or (λ (type : JType). Some (Reads (Arg (read_count state.stage)) type)) (argument_next world state.method state.stage) (asked_at world state bounds)
+
+-- something is chosen where a reference is read for the first time: an int or a boolean is a new variable
+abbrev pub is_choice : Option Question → Bool
+is_choice None = false
+is_choice (Some (Reads slot type)) = is_reference_type type

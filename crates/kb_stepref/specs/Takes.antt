@@ -2,7 +2,7 @@
 -- what comes behind it is done; where nothing is asked the instruction is carried out.
 use Rattle.std.specs.Option.{option_map_or}
 use Rattle.kb_heap.specs.declared.bounds.Bounds.{Bounds}
-use Rattle.kb_link.specs.World.{World}
+use Rattle.kb_classes.specs.World.{World}
 use Rattle.kb_picture.specs.declared.choice.Choice.{Choice}
 use Rattle.kb_picture.specs.declared.choice.Choice.TheVariants.{Only}
 use Rattle.kb_frames.specs.State.{State}

@@ -1,8 +1,10 @@
 //! The alternatives of the next step on references.
 ghost use Rattle.std.specs.Prelude.{◌≡◌, IfOk};
+ghost use Rattle.std.specs.Option.{option_map_or};
 ghost use Rattle.kb_picture.specs.Growing.{is_receiver};
-ghost use Rattle.kb_stepref.specs.Choices.{alternatives, choices_of, only};
+ghost use Rattle.kb_stepref.specs.Choices.{alternatives, choices_of};
 ghost use Rattle.kb_stepref.specs.Laws.{IsAtReferences};
+ghost use Rattle.kb_ways.specs.Advancing.{only};
 ghost use Rattle.kb_ways.specs.declared.question.Question.TheVariants.{Reads};
 
 use crate::NoMemory;
@@ -13,8 +15,8 @@ use kb_heap::Bounds;
 use kb_lazy::read_choices;
 use kb_names::JType;
 use kb_picture::{Choice, Origin};
-use kb_ways::Question;
-use kb_world::World;
+use kb_semantics::World;
+use kb_ways::{Question, only};
 use std::alloc::Global;
 
 /// The alternatives of the next step of a state, in their order. Of a reference that is read for the first time they are null,
@@ -33,18 +35,24 @@ pub fn choices_ref(
     requires { IsAtReferences world.now state.now }
     ensures { IfOk result (λ choices. choices.items ≡ choices_of world.now state.now bounds.now) }
 {
-    match question_of(alloc, world, state, bounds)? {
-        Some(question) => alternatives(alloc, world, state, bounds, &question),
-        None => only(alloc),
-    }
+    let question = question_of(alloc, world, state, bounds)?;
+    offered(alloc, world, state, bounds, &question)
 }
 
-fn only(alloc: Global) -> Result<Vec<Choice>, NoMemory>
-    ensures { IfOk result (λ choices. choices.items ≡ only) }
+/// The alternatives where that must be told, and the only way on where nothing must.
+pub(crate) fn offered(
+    alloc: Global,
+    world: &World,
+    state: &SymState,
+    bounds: &Bounds,
+    question: &Option<Question>,
+) -> Result<Vec<Choice>, NoMemory>
+    ensures { IfOk result (λ choices. choices.items ≡ option_map_or (alternatives world.now state.now bounds.now) question.now only) }
 {
-    let mut choices = Vec::new(alloc);
-    choices.push(Choice::Only)?;
-    Ok(choices)
+    match question {
+        Some(question) => alternatives(alloc, world, state, bounds, question),
+        None => only(alloc),
+    }
 }
 
 // The alternatives of a question.

@@ -12,10 +12,10 @@ ghost use Rattle.kb_stepref.specs.Fields.{cell_of, field_named, has_place, has_s
 use crate::NoMemory;
 use kb_frames::{Cell, Outcome, SymState, SymValue};
 use kb_lookups::{declaring_class, has_field};
+use kb_semantics::{FieldSlot, World};
 use kb_ways::{
     Turn, a_reference, an_object_and_value, has_room, ill_typed, keep, replaces, throws,
 };
-use kb_world::{FieldSlot, World};
 
 const NULL_POINTER: &[u8] = b"java/lang/NullPointerException";
 

@@ -1,5 +1,6 @@
 //! What holds of the steps on references of every state. The functions do nothing: they carry the laws.
-ghost use Rattle.kb_ways.specs.Simulation.{AddsComparisons, FollowsStep, GetsOn, HasInputOfState, Keeps, ReadsWhatItSees, TakesOneWay};
+ghost use Rattle.kb_picture.specs.declared.choice.Choice.TheVariants.{Only};
+ghost use Rattle.kb_ways.specs.Simulation.{AddsComparisons, AddsNoCondition, FollowsStep, GetsOn, HasInputOfState, Keeps, ReadsWhatItSees, TakesOneWay};
 ghost use Rattle.kb_stepref.specs.Choices.{choices_of};
 ghost use Rattle.kb_stepref.specs.Laws.{OfStates, OfTakes};
 ghost use Rattle.kb_stepref.specs.Takes.{taken};
@@ -19,6 +20,11 @@ pub fn reference_steps_keep()
     ensures picture { OfTakes (λ world bounds state take. HasInputOfState world take.state) }
     ensures compared { OfTakes (λ world bounds state take. AddsComparisons world bounds state take.state) }
     ensures read { OfTakes (λ world bounds state take. ReadsWhatItSees world bounds state take.state) }
+{}
+
+/// The only way on adds no condition.
+pub fn only_reference_steps_add_no_condition()
+    ensures { OfStates (λ world bounds state. AddsNoCondition state (taken world bounds state Only).state) }
 {}
 
 /// Each take leaves fewer choices before the same instruction, or has carried out one more: so an exploration ends.

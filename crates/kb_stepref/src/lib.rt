@@ -5,6 +5,7 @@
 //! makes of a state.
 #![tactic(auto)]
 
+mod advance;
 mod choices;
 mod comparing;
 mod fields;
@@ -15,7 +16,11 @@ mod questions;
 mod returns;
 mod take;
 
+pub use advance::advance_ref;
 pub use choices::choices_ref;
-pub use laws::{reference_steps_get_on, reference_steps_keep, reference_steps_simulate};
+pub use laws::{
+    only_reference_steps_add_no_condition, reference_steps_get_on, reference_steps_keep,
+    reference_steps_simulate,
+};
 pub use std::alloc::AllocError as NoMemory;
 pub use take::take_ref;

@@ -1,17 +1,17 @@
 //! What a step must be told before it can be carried out.
 ghost use Rattle.std.specs.Prelude.{◌≡◌, slice_get, IfOk};
 ghost use Rattle.kb_frames.specs.Lent.{stack_of};
-ghost use Rattle.kb_stepref.specs.Questions.{asked_by, asks_cell, asks_field, question_of};
+ghost use Rattle.kb_stepref.specs.Questions.{asked_by, asks_cell, asks_field, is_choice, question_of};
 
 use crate::NoMemory;
 use crate::fields::{cell_of, field_named};
 use kb_code::Instr;
-use kb_frames::{Cell, SymState, SymValue};
+use kb_frames::{Cell, SymState, SymValue, is_reference};
 use kb_heap::Bounds;
 use kb_lookups::instruction_at;
 use kb_picture::Origin;
+use kb_semantics::{FieldSlot, World};
 use kb_ways::Question;
-use kb_world::{FieldSlot, World};
 use std::alloc::Global;
 
 /// The question of a state: its next argument, or what its next instruction must be told.
@@ -87,5 +87,15 @@ fn asks_cell(
             Ok(Some(Question::Reads(Origin::Field(number, field.slot), kind)))
         }
         Some(Cell::Read(_)) | Some(Cell::Written(_)) | None => Ok(None),
+    }
+}
+
+/// Whether something is chosen: an int that is read for the first time is a new variable.
+pub(crate) fn is_choice(question: &Option<Question>) -> bool
+    ensures { result ≡ is_choice question.now }
+{
+    match question {
+        Some(Question::Reads(_, kind)) => is_reference(kind),
+        None => false,
     }
 }

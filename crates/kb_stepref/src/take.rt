@@ -21,8 +21,8 @@ use kb_frames::{Outcome, SymState};
 use kb_heap::{Bound, Bounds};
 use kb_lookups::instruction_at;
 use kb_picture::{Choice, Origin, SymEnding};
+use kb_semantics::World;
 use kb_ways::{Question, Turn, answer, passed_by, place_of, slot_of};
-use kb_world::World;
 use std::alloc::Global;
 
 /// Takes an alternative that [`crate::choices_ref`] lists for the state. What was chosen for a slot that is read for the first
@@ -46,7 +46,27 @@ pub fn take_ref(
     ensures take { IfOk result (λ outcome. told state.new outcome ≡ taken world.now bounds.now state.old choice.now) }
     ensures reached { OnOk result (IsReached world.now state.new) }
 {
-    let outcome = answer_or_go_on(alloc, world, state, choice, bounds)?;
+    let question = question_of(alloc, world, state, bounds)?;
+    take_told(alloc, world, state, choice, bounds, &question)
+}
+
+/// Takes an alternative of what the next step must be told.
+pub(crate) fn take_told(
+    alloc: Global,
+    world: &World,
+    state: &mut SymState,
+    choice: &Choice,
+    bounds: &Bounds,
+    question: &Option<Question>,
+) -> Result<Outcome, NoMemory>
+    requires at { IsAtReferences world.now state.old }
+    requires asks { question_of world.now state.old bounds.now ≡ question.now }
+    requires listed { Has (choices_of world.now state.old bounds.now) choice.now }
+    requires range { AreInRange bounds.now }
+    ensures take { IfOk result (λ outcome. told state.new outcome ≡ taken world.now bounds.now state.old choice.now) }
+    ensures reached { OnOk result (IsReached world.now state.new) }
+{
+    let outcome = answer_or_go_on(alloc, world, state, choice, bounds, question)?;
     // The terms that are lent are those of a pool, which a state that is reached must have.
     let _ = state.pool().nodes();
     Ok(outcome)
@@ -59,14 +79,16 @@ fn answer_or_go_on(
     state: &mut SymState,
     choice: &Choice,
     bounds: &Bounds,
+    question: &Option<Question>,
 ) -> Result<Outcome, NoMemory>
     requires at { IsAtReferences world.now state.old }
+    requires asks { question_of world.now state.old bounds.now ≡ question.now }
     requires listed { Has (choices_of world.now state.old bounds.now) choice.now }
     requires range { AreInRange bounds.now }
     ensures { IfOk result (λ outcome. told state.new outcome ≡ taken world.now bounds.now state.old choice.now) }
 {
-    match question_of(alloc, world, state, bounds)? {
-        Some(question) => take_answer(alloc, world, state, choice, bounds, &question),
+    match question {
+        Some(question) => take_answer(alloc, world, state, choice, bounds, question),
         None => take_next(alloc, world, state, bounds),
     }
 }

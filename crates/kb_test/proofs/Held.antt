@@ -1,6 +1,5 @@
 -- Tests that a text spells are such as have texts.
-use Rattle.std.proofs.Common.{◌≡◌, ◌≢◌, ℕ, zero, suc, ◌+◌, ◌<◌, ◌≤◌, Bool, true, ◌&&◌, Option, None, Some, List, [], ◌∷◌, ◌++◌, length, length-append, map, take, drop, refl, sym, ◌∙◌, ap, arith, subst}
-use Rattle.std.specs.Prelude.{nat_lt, codes, IsTrue}
+use Rattle.std.proofs.Common.{◌≡◌, ◌≢◌, ℕ, zero, suc, ◌+◌, ◌<◌, true, None, Some, List, [], ◌∷◌, ◌++◌, length, length-append, take, drop, refl, sym, ◌∙◌, ap, arith, subst}
 use Rattle.std.specs.List.{list_all}
 use Rattle.std.proofs.lemmas.Bool.{ltb-true}
 use Rattle.std.proofs.lemmas.List.{length-map, length-replicate}
@@ -19,7 +18,8 @@ use Rattle.kb_test_lines.specs.declared.outcomes.Outcome.TheVariants.{Returns, T
 use Rattle.kb_test.specs.declared.script.Script.{Script}
 use Rattle.kb_test.specs.declared.test_case.Test.{Test}
 use Rattle.kb_test_lines.specs.Words.{IsWord, AreWords, AreWordLists, is_below, word_below, words_below}
-use Rattle.kb_test_lines.specs.Lines.{AreListed, IsExact, IsOutcome, listed_below, outcome_below}
+use Rattle.kb_heap_words.specs.Words.{IsExact}
+use Rattle.kb_test_lines.specs.Lines.{AreListed, IsOutcome, listed_below, outcome_below}
 use Rattle.kb_test.specs.Scripts.{limits_of, IsScript, AreScripts}
 use Rattle.kb_heap.specs.Heap.{literal}
 use Rattle.kb_test.specs.Tests.{number_of, value_of, values_of, object_of, objects_of, last_objects, ending_of, literal_objects, test_of, tests_of, SpellsTests, IsValue, AreValues, AreObjects, kinds_of, IsEnding, IsTest, AreTests}

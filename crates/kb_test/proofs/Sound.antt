@@ -1,7 +1,7 @@
 -- What is read of a test after one line more.
-use Rattle.std.proofs.Common.{◌≡◌, ◌⊎◌, inl, inr, ℕ, zero, suc, ◌+◌, ◌<◌, ◌≤◌, ◌^◌, Bool, true, false, ◌==◌, ◌&&◌, eqb, Option, None, Some, List, [], ◌∷◌, ◌++◌, length, length-append, map, refl, sym, ◌∙◌, ap, arith, append_assoc, append-nil, subst}
-use Rattle.std.specs.Prelude.{nat_lt, IsTrue}
-use Rattle.std.specs.List.{list_all, flat_map}
+use Rattle.std.proofs.Common.{◌≡◌, ◌⊎◌, inl, inr, ℕ, suc, ◌+◌, ◌<◌, Bool, true, false, ◌==◌, ◌&&◌, Option, None, Some, List, [], ◌∷◌, ◌++◌, length, length-append, map, refl, sym, ◌∙◌, ap, arith, append_assoc, append-nil, subst}
+use Rattle.std.specs.Prelude.{nat_lt}
+use Rattle.std.specs.List.{list_all}
 use Rattle.std.proofs.lemmas.Bool.{eqb-true, ltb-true}
 use Rattle.std.proofs.lemmas.List.{nil_from_length}
 use Rattle.std.proofs.lemmas.List.Folds.{list_all-append}
@@ -19,12 +19,12 @@ use Rattle.kb_test.specs.declared.test_case.Test.{Test}
 use Rattle.kb_test.specs.declared.fronts.Open.{Open}
 use Rattle.kb_test.specs.declared.fronts.Open.TheVariants.{Between, Named, Started, Ended}
 use Rattle.kb_test.specs.declared.fronts.Front.{Front}
-use Rattle.kb_test_lines.specs.Words.{AreWords, AreWordLists, word_below, words_below}
-use Rattle.kb_test_lines.specs.Lines.{AreListed, IsListed, IsLine, listed_below, outcome_below}
+use Rattle.kb_test_lines.specs.Words.{AreWordLists, word_below, words_below}
+use Rattle.kb_test_lines.specs.Lines.{AreListed, IsLine, listed_below}
 use Rattle.kb_test.specs.Scripts.{in_lines, out_lines, new_lines, script_lines, script_below, limits_of, IsScript, AreScripts, scripts_lines}
 use Rattle.kb_test.specs.Tests.{test_of, tests_of}
 use Rattle.kb_test.specs.Fronts.{open_limits, ended_limits, with_arg, with_input, with_outcome, with_out, with_new, may_have_arg, may_have_input, may_end_so, may_have_out, may_have_new, may_be_whole, if_may, begun_step, ended_step, between_step, named_step, with_open, step, begun_lines, ended_lines, open_lines, IsBegun, IsEnded, IsOpen}
-use Rattle.kb_test_lines.proofs.WordLists.{AreWords-++}
+use Rattle.kb_grammar.proofs.ListLaws.{All-++}
 use Rattle.kb_test.proofs.Steps.{both, and_both, AreBelow, are_below, is_below_all, front_of}
 use Rattle.kb_test.proofs.Accepts.{whole_lines}
 
@@ -144,7 +144,7 @@ arg_next literals begun word good is h = record {
   is = record {
     target = good.target;
     bounds = good.bounds;
-    args = AreWords-++ begun.args (word ∷ []) good.args (is, tt);
+    args = All-++ IsWord begun.args (word ∷ []) good.args (is, tt);
     inputs = good.inputs;
     numbered_inputs = good.numbered_inputs;
     args_there = all-++ (word_below (open_limits literals)) begun.args (word ∷ []) good.args_there (one_all (word_below (open_limits literals)) word parts.1);

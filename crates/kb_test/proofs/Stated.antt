@@ -1,5 +1,5 @@
 -- The endings that a test may state, as its text writes them.
-use Rattle.std.proofs.Common.{◌≡◌, ℕ, Option, None, Some, List, [], ◌∷◌, ◌++◌, length, map, refl, sym, ◌∙◌, ap, append_assoc}
+use Rattle.std.proofs.Common.{◌≡◌, ℕ, Option, None, Some, List, [], ◌∷◌, ◌++◌, length, map, sym, ◌∙◌, ap, append_assoc}
 use Rattle.std.specs.Prelude.{codes}
 use Rattle.kb_grammar.specs.Lines.{lines_text}
 use Rattle.kb_grammar.proofs.LineLaws.{lines_text-++}
@@ -13,7 +13,7 @@ use Rattle.kb_test_lines.specs.declared.lines.Line.{Line}
 use Rattle.kb_test_lines.specs.declared.lines.Line.TheVariants.{Method, Limit, Arg, Ends, End}
 use Rattle.kb_test.specs.declared.script.Script.{Script}
 use Rattle.kb_test.specs.declared.test_case.Test.{Test}
-use Rattle.kb_test_lines.specs.Lines.{bound_text, outcome_text, line_text, texts_of}
+use Rattle.kb_test_lines.specs.Lines.{outcome_text, line_text, texts_of}
 use Rattle.kb_test.specs.Scripts.{in_lines, out_lines, new_lines, script_lines}
 use Rattle.kb_test.specs.Writing.{reference_of, word_of, words_of, listeds_of, outs_of, news_of, ending_text, heap_lines, run_text, first_lines, text_with, test_text}
 use Rattle.kb_test_lines.proofs.Texts.{texts_of-++}
@@ -47,7 +47,7 @@ abbrev pub script_of : ℕ → Outcome → Test → Script
 script_of literals outcome test = script_with (length test.input.heap.objects) literals outcome test
 
 same_ending : (inputs literals : ℕ) (ending : Ending) (outcome : Outcome) → outcome_of inputs literals ending ≡ Some outcome → ending_text inputs literals ending ≡ outcome_text outcome
-unfolding ending_text outcome_text bound_text
+unfolding ending_text outcome_text
 same_ending inputs literals (Returned None) outcome e = let same : Returns None ≡ outcome = cc in ap outcome_text same
 same_ending inputs literals (Returned (Some value)) outcome e = let same : Returns (Some (word_of inputs literals value)) ≡ outcome = cc in ap outcome_text same
 same_ending inputs literals (Threw object) outcome e = let same : Throws (reference_of inputs literals object) ≡ outcome = cc in ap outcome_text same

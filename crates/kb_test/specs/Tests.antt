@@ -1,5 +1,5 @@
 -- Tests, and the texts that spell them.
-use Rattle.std.specs.Prelude.{ℕ, ◌+◌, ◌<◌, ◌≤◌, ◌^◌, ◌≡◌, Option, None, Some, List, [], ◌∷◌, ◌++◌, length, map, take, drop, replicate}
+use Rattle.std.specs.Prelude.{ℕ, ◌+◌, ◌<◌, ◌≤◌, ◌≡◌, None, Some, List, [], ◌∷◌, ◌++◌, length, map, take, drop, replicate}
 use Rattle.std.specs.Int.RustNames.{FitsSigned}
 use mir.Syntax.{w32}
 use Rattle.kb_grammar.specs.Lines.{lines_text}
@@ -10,19 +10,17 @@ use Rattle.kb_heap.specs.declared.heap.Value.TheVariants.{Int, Null, Ref}
 use Rattle.kb_heap.specs.declared.heap.Object.{Object}
 use Rattle.kb_heap.specs.declared.heap.Heap.{Heap}
 use Rattle.kb_heap.specs.Heap.{literal}
-use Rattle.kb_heap.specs.declared.bounds.Bound.{Bound}
 use Rattle.kb_heap.specs.declared.bounds.Bound.TheVariants.{K, Array, Alloc, Loops, Depth, Steps}
 use Rattle.kb_heap.specs.declared.ending.Ending.{Ending}
 use Rattle.kb_heap.specs.declared.ending.Ending.TheVariants.{Returned, Threw, IllTyped, Past}
-use Rattle.kb_test_lines.specs.Lines.{IsExact, IsRunBounds, IsPlace, texts_of}
+use Rattle.kb_heap_words.specs.Words.{IsExact, IsPlace}
+use Rattle.kb_test_lines.specs.Lines.{bound_of, IsRunBounds, texts_of}
 use Rattle.kb_test.specs.Scripts.{AreScripts, scripts_lines}
 use Rattle.kb_test_lines.specs.declared.words.Reference.{Reference}
 use Rattle.kb_test_lines.specs.declared.words.Reference.TheVariants.{Input, Literal, Made}
 use Rattle.kb_test_lines.specs.declared.words.Word.{Word}
 use Rattle.kb_test_lines.specs.declared.words.Word.TheVariants.{Int as int_word, Null as null_word, Object as object_word}
 use Rattle.kb_test_lines.specs.declared.lines.Listed.{Listed}
-use Rattle.kb_test_lines.specs.declared.outcomes.RunBound.{RunBound}
-use Rattle.kb_test_lines.specs.declared.outcomes.RunBound.TheVariants.{Alloc as alloc_bound, Loops as loops_bound, Depth as depth_bound, Steps as steps_bound}
 use Rattle.kb_test_lines.specs.declared.outcomes.Outcome.{Outcome}
 use Rattle.kb_test_lines.specs.declared.outcomes.Outcome.TheVariants.{Returns, Throws, IllTyped as ill_typed_at, Past as past_bound}
 use Rattle.kb_test.specs.declared.script.Script.{Script}
@@ -54,12 +52,6 @@ abbrev pub last_objects : ℕ → ℕ → List Listed → List (List Word) → L
 last_objects inputs literals (listed ∷ others) (words ∷ outs) = record { kind = listed.kind; values = values_of inputs literals words } ∷ last_objects inputs literals others outs
 last_objects inputs literals [] outs = []
 last_objects inputs literals (listed ∷ others) [] = []
-
-abbrev pub bound_of : RunBound → Bound
-bound_of alloc_bound = Alloc
-bound_of loops_bound = Loops
-bound_of depth_bound = Depth
-bound_of steps_bound = Steps
 
 abbrev pub ending_of : ℕ → ℕ → Outcome → Ending
 ending_of inputs literals (Returns None) = Returned None

@@ -4,11 +4,11 @@ use Rattle.kb_grammar.specs.Lines.{lines_text}
 use Rattle.kb_heap.specs.declared.heap.Value.{Value}
 use Rattle.kb_heap.specs.declared.heap.Value.TheVariants.{Int, Null, Ref}
 use Rattle.kb_heap.specs.declared.heap.Object.{Object}
-use Rattle.kb_heap.specs.declared.bounds.Bound.TheVariants.{K, Array, Alloc, Loops, Depth, Steps}
 use Rattle.kb_heap.specs.declared.ending.Ending.{Ending}
 use Rattle.kb_heap.specs.declared.ending.Ending.TheVariants.{Returned, Threw, IllTyped, Past}
 use Rattle.kb_test_lines.specs.Words.{reference_text, word_text}
-use Rattle.kb_test_lines.specs.Lines.{place_text, texts_of}
+use Rattle.kb_heap_words.specs.Words.{place_text, bound_name}
+use Rattle.kb_test_lines.specs.Lines.{texts_of}
 use Rattle.kb_test.specs.Scripts.{in_lines, out_lines, new_lines}
 use Rattle.kb_test_lines.specs.declared.words.Reference.{Reference}
 use Rattle.kb_test_lines.specs.declared.words.Reference.TheVariants.{Input, Literal, Made}
@@ -53,12 +53,7 @@ ending_text inputs literals (Returned None) = codes "returns"
 ending_text inputs literals (Returned (Some value)) = codes "returns " ++ word_text (word_of inputs literals value)
 ending_text inputs literals (Threw object) = codes "throws " ++ reference_text (reference_of inputs literals object)
 ending_text inputs literals (IllTyped place) = codes "illtyped " ++ place_text place
-ending_text inputs literals (Past K) = codes "past k"
-ending_text inputs literals (Past Array) = codes "past array"
-ending_text inputs literals (Past Alloc) = codes "past alloc"
-ending_text inputs literals (Past Loops) = codes "past loops"
-ending_text inputs literals (Past Depth) = codes "past depth"
-ending_text inputs literals (Past Steps) = codes "past steps"
+ending_text inputs literals (Past bound) = codes "past " ++ bound_name bound
 
 -- the lines on the objects of the heap that a run leaves
 abbrev pub heap_lines : ℕ → ℕ → List Object → List Line

@@ -1,6 +1,7 @@
 //! From what a text says to the test: objects get their numbers in the heap.
 ghost use Rattle.std.specs.Prelude.{◌≡◌, IfOk};
-ghost use Rattle.kb_test.specs.Tests.{number_of, value_of, values_of, objects_of, last_objects, bound_of, ending_of, final_heap_of, test_with, test_of};
+ghost use Rattle.kb_test_lines.specs.Lines.{bound_of};
+ghost use Rattle.kb_test.specs.Tests.{number_of, value_of, values_of, objects_of, last_objects, ending_of, final_heap_of, test_with, test_of};
 
 use crate::script::Script;
 use crate::{FinalHeap, NoMemory, Test};

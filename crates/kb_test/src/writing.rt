@@ -1,9 +1,9 @@
 //! Tests are written.
-ghost use Rattle.std.specs.Prelude.{◌≡◌, ◌≤◌, ◌∷◌, [], ◌++◌, length, map, take, codes, ◌<◌, ◌^◌, ℕ, List, IsTrue, OnOk, OnErr};
+ghost use Rattle.std.specs.Prelude.{◌≡◌, ◌≤◌, ◌∷◌, [], ◌++◌, length, map, take, ◌<◌, ◌^◌, ℕ, List, IsTrue, OnOk, OnErr};
 ghost use Rattle.std.specs.Fmt.{decimal};
 ghost use Rattle.kb_grammar.specs.Lines.{lines_text};
 ghost use Rattle.kb_test_lines.specs.Words.{reference_text, word_text, words_text};
-ghost use Rattle.kb_test_lines.specs.Lines.{exact_text, listed_text, place_text, line_text, texts_of};
+ghost use Rattle.kb_test_lines.specs.Lines.{listed_text, line_text, texts_of};
 ghost use Rattle.kb_test.specs.Scripts.{in_lines, out_lines, new_lines};
 ghost use Rattle.kb_test.specs.Tests.{IsTest, SpellsTests};
 ghost use Rattle.kb_test.specs.declared.test_case.Test.{Test};
@@ -12,8 +12,9 @@ ghost use Rattle.kb_test.specs.Writing.{reference_of, word_of, words_of, listed_
 ghost use Rattle.kb_test_lines.specs.declared.lines.Line.TheVariants.{Method, Limit, Arg, In, Out, New};
 
 use crate::{FinalHeap, NoMemory, Objects, Test};
-use kb_heap::{Bound, Ending, Object, Place, RunBounds, Value};
-use kb_names::{ExactType, Spelling, Target, write_name, write_target, write_type};
+use kb_heap::{Ending, Object, RunBounds, Value};
+use kb_heap_words::{bound_name, write_exact, write_place};
+use kb_names::{Target, write_target};
 use kb_test_lines::Reference;
 use std::alloc::Global;
 
@@ -168,21 +169,6 @@ fn append_bounds_line(alloc: Global, bounds: &RunBounds, into: &mut Vec<u8>) -> 
     append(b"\n", into)
 }
 
-// The name of a class, or the descriptor of an array type.
-fn append_exact(kind: &ExactType, into: &mut Vec<u8>) -> Result<(), NoMemory>
-    ensures ok { OnOk result (into.new.items ≡ into.old.items ++ exact_text kind.now) }
-    ensures kept { take (length into.old.items) into.new.items ≡ into.old.items }
-{
-    match kind {
-        ExactType::Class(name) => write_name(name, into)?,
-        ExactType::Array(component) => {
-            append(b"[", into)?;
-            write_type(component, Spelling::Escaped, into)?;
-        }
-    }
-    Ok(())
-}
-
 impl Counts {
     fn reference(self, object: u32) -> Reference
         ensures { result ≡ reference_of self.inputs self.literals object }
@@ -274,7 +260,7 @@ impl Counts {
         ensures ok { OnOk result (into.new.items ≡ into.old.items ++ listed_text (listed_of self.inputs self.literals object.now)) }
         ensures kept { take (length into.old.items) into.new.items ≡ into.old.items }
     {
-        append_exact(&object.kind, into)?;
+        write_exact(&object.kind, into)?;
         self.append_values(object.values.as_slice(), into)
     }
 
@@ -327,16 +313,6 @@ impl Counts {
         Ok(())
     }
 
-    fn append_place(self, place: &Place, into: &mut Vec<u8>) -> Result<(), NoMemory>
-        ensures ok { OnOk result (into.new.items ≡ into.old.items ++ (codes "illtyped " ++ place_text place.now)) }
-        ensures kept { take (length into.old.items) into.new.items ≡ into.old.items }
-    {
-        append(b"illtyped ", into)?;
-        write_target(&place.method, into)?;
-        append(b" ", into)?;
-        append_number(self.alloc, place.at, into)
-    }
-
     #[tactic(auto, unfolding(crate::specs::Writing::ending_text))]
     fn append_ending(self, ending: &Ending, into: &mut Vec<u8>) -> Result<(), NoMemory>
         ensures ok { OnOk result (into.new.items ≡ into.old.items ++ ending_text self.inputs self.literals ending.now) }
@@ -352,13 +328,14 @@ impl Counts {
                 append(b"throws ", into)?;
                 self.append_reference(*object, into)
             }
-            Ending::IllTyped(place) => self.append_place(place, into),
-            Ending::Past(Bound::K) => append(b"past k", into),
-            Ending::Past(Bound::Array) => append(b"past array", into),
-            Ending::Past(Bound::Alloc) => append(b"past alloc", into),
-            Ending::Past(Bound::Loops) => append(b"past loops", into),
-            Ending::Past(Bound::Depth) => append(b"past depth", into),
-            Ending::Past(Bound::Steps) => append(b"past steps", into),
+            Ending::IllTyped(place) => {
+                append(b"illtyped ", into)?;
+                write_place(self.alloc, place, into)
+            }
+            Ending::Past(bound) => {
+                append(b"past ", into)?;
+                append(bound_name(*bound).as_bytes(), into)
+            }
         }
     }
 

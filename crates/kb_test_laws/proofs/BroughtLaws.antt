@@ -19,19 +19,20 @@ use Rattle.kb_class.specs.declared.members.MethodInfo.{MethodInfo}
 use Rattle.kb_class.specs.Class.{Class, Sought}
 use Rattle.kb_class.specs.Naming.{Has}
 use Rattle.kb_class.proofs.Lists.{filter_has, has_first, has_left, map_has}
-use Rattle.kb_link.specs.declared.linking.What.TheVariants as whats
+use Rattle.kb_classes.specs.declared.refusal.What.TheVariants as whats
 use Rattle.kb_link.specs.Links.{IsLinked}
-use Rattle.kb_link.specs.Subtypes.{shape_of_exact, type_of_exact}
-use Rattle.kb_link.specs.Universe.{exact_class, given_types, is_concrete, is_given}
-use Rattle.kb_link.specs.World.{method_at, number_in, type_entry_of}
-use Rattle.kb_link.proofs.MethodNumbers.{named_at}
+use Rattle.kb_classes.specs.Subtypes.{shape_of_exact, type_of_exact}
+use Rattle.kb_classes.specs.Universe.{exact_class, given_types, is_concrete, is_given}
+use Rattle.kb_classes.specs.World.{method_at, number_in, type_entry_of}
+use Rattle.kb_classes.proofs.MethodNumbers.{named_at}
 use Rattle.kb_link.proofs.SharingLaws.{has_filtered}
 use Rattle.kb_world.specs.Calls.{called_on, fault_of, has_code_at, if_code, mentions, receives, selected_on}
-use Rattle.kb_world.specs.Faults.{Outside, component_of_code, fault_of_array, fault_of_new, fault_of_new_type, fault_of_object, has_left_out, is_deepest, missing_class}
-use Rattle.kb_world.specs.Lookup.{method_of_sought, only_where, resolved_method, selected_special, sought_at, special_of_sought}
+use Rattle.kb_universe.specs.Faults.{Outside, component_of_code, fault_of_array, fault_of_new, fault_of_new_type, fault_of_object, is_deepest, missing_class}
+use Rattle.kb_resolution.specs.LeftOut.{has_left_out}
+use Rattle.kb_resolution.specs.Lookup.{method_of_sought, only_where, resolved_method, selected_special, sought_at, special_of_sought}
 use Rattle.kb_semantics.specs.Config.{Setting, info_of}
 use Rattle.kb_semantics.specs.Instructions.{BySelection, Callee, Special, Static, callee_of, component_of_entry}
-use Rattle.kb_test_lines.specs.Lines.{IsExact}
+use Rattle.kb_heap_words.specs.Words.{IsExact}
 use Rattle.kb_test_laws.specs.Texts.{NamesHaveTexts}
 use Rattle.kb_test_laws.proofs.CallLaws.{SelectsNoCode, arrays_select_none, row_selects_none}
 use Rattle.kb_test_laws.proofs.PlatformLaws.{given_or_row}

@@ -15,11 +15,11 @@ use Rattle.kb_class.specs.Naming.{Has}
 use Rattle.kb_class.specs.Platform.{IsPlatformMethod, object_name}
 use Rattle.kb_class.proofs.Lists.{has_cases, has_none, has_first, has_later, has_zipped}
 use Rattle.kb_link.specs.Links.{IsLinked}
-use Rattle.kb_link.specs.Subtypes.{IsChain}
-use Rattle.kb_link.specs.World.{World, chain_of, method_at, number_in, parent_in}
+use Rattle.kb_classes.specs.Subtypes.{IsChain}
+use Rattle.kb_classes.specs.World.{World, chain_of, method_at, number_in, parent_in}
 use Rattle.kb_link.proofs.MemberNames.{declared_is}
 use Rattle.kb_world.specs.Calls.{has_code_at, selected_on}
-use Rattle.kb_world.specs.Lookup.{class_of, declares, declares_open, first_along, is_open_at, only_where, or_else, selected, selected_for}
+use Rattle.kb_resolution.specs.Lookup.{class_of, declares, declares_open, first_along, is_open_at, only_where, or_else, selected, selected_for}
 use Rattle.kb_test_laws.proofs.PlatformTable.{IsTableName, object_in_table, parent_in_table}
 use Rattle.kb_test_laws.proofs.PlatformLaws.{IsRow, named_row}
 

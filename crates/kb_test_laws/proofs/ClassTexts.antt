@@ -22,8 +22,8 @@ use Rattle.kb_class.specs.Loading.{SpellsExact, SpellsKind, HasText, StandsFor, 
 use Rattle.kb_class.specs.Naming.{HasKind, OfField, OfMethod, OfEntry}
 use Rattle.kb_class.proofs.Lists.{all_has, has_zipped}
 use Rattle.kb_link.specs.Links.{KeepsFormat, AreClassesOf}
-use Rattle.kb_link.proofs.Places.{zip_back}
-use Rattle.kb_test_lines.specs.Lines.{IsExact}
+use Rattle.kb_classes.proofs.Places.{zip_back}
+use Rattle.kb_heap_words.specs.Words.{IsExact}
 use Rattle.kb_test_laws.specs.Texts.{IsOfBytes}
 use Rattle.kb_test_laws.proofs.ByteLaws.{file_texts}
 use Rattle.kb_test_laws.proofs.DescriptorLaws.{KindHasText, kind_spelled, exact_spelled, entry_name_some}

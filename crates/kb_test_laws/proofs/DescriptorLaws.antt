@@ -17,7 +17,7 @@ use Rattle.kb_class.specs.declared.members.MemberKind.TheVariants as kinds
 use Rattle.kb_class.specs.Loading.{SpellsExact, SpellsKind}
 use Rattle.kb_class.specs.Naming.{Has, Holds, exact_of}
 use Rattle.kb_class.proofs.Lists.{has_cases, has_none}
-use Rattle.kb_test_lines.specs.Lines.{IsExact}
+use Rattle.kb_heap_words.specs.Words.{IsExact}
 use Rattle.kb_test_laws.proofs.ByteLaws.{bytes_front, bytes_behind}
 
 -- ---- types

@@ -5,9 +5,9 @@ use Rattle.kb_class.specs.Naming.{Has}
 use Rattle.kb_class.specs.Platform.{PlatformClass, IsPlatform, platform_table}
 use Rattle.kb_class.proofs.Lists.{all_has, has_first, has_later}
 use Rattle.kb_link.specs.Links.{ArePlatform, HasFile, HavePlatform}
-use Rattle.kb_link.specs.Rules.{HaveDifferentNames}
-use Rattle.kb_link.specs.World.{number_in}
-use Rattle.kb_link.proofs.MethodNumbers.{get_behind, get_either, number_of_named}
+use Rattle.kb_classes.specs.Rules.{HaveDifferentNames}
+use Rattle.kb_classes.specs.World.{number_in}
+use Rattle.kb_classes.proofs.MethodNumbers.{get_behind, get_either, number_of_named}
 use Rattle.kb_test_laws.proofs.PlatformTable.{IsTableName}
 
 -- the class with that number is a row of the table

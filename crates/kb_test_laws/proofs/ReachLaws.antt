@@ -13,11 +13,12 @@ use Rattle.kb_class.specs.declared.members.MethodCode.{MethodCode}
 use Rattle.kb_class.specs.declared.members.MethodInfo.{MethodInfo}
 use Rattle.kb_class.specs.Naming.{Has}
 use Rattle.kb_class.proofs.Lists.{all_has, has_cases, has_first, has_later, has_left, has_none, has_right}
-use Rattle.kb_link.specs.World.{World}
+use Rattle.kb_classes.specs.World.{World}
 use Rattle.kb_semantics.specs.Config.{class_number, code_of, info_of, instruction_at, instruction_in}
 use Rattle.kb_world.specs.Calls.{fault_of, mentions}
-use Rattle.kb_world.specs.Lookup.{or_else}
-use Rattle.kb_world.specs.Reach.{fault_in, listing_of, mentions_in, method_mentions, with_new, HasNoFault, IsReached}
+use Rattle.kb_resolution.specs.Lookup.{or_else}
+use Rattle.kb_world.specs.Reach.{fault_in, listing_of, mentions_in, method_mentions, HasNoFault, IsReached}
+use Rattle.kb_universe.specs.Found.{with_new}
 use Rattle.kb_test_laws.proofs.PlatformTable.{any_there}
 
 -- ---- lists without repetitions

@@ -16,11 +16,11 @@ use Rattle.kb_heap.specs.declared.heap.Object.{Object}
 use Rattle.kb_heap.specs.declared.heap.Value.{Value}
 use Rattle.kb_heap.specs.declared.heap.Value.TheVariants.{Int}
 use Rattle.kb_heap.specs.Heap.{object_at}
-use Rattle.kb_link.specs.Subtypes.{fits}
-use Rattle.kb_link.specs.World.{type_entry_of}
+use Rattle.kb_classes.specs.Subtypes.{fits}
+use Rattle.kb_classes.specs.World.{type_entry_of}
 use Rattle.kb_world.specs.Calls.{has_code_at, is_without_file}
-use Rattle.kb_world.specs.Faults.{component_of_code}
-use Rattle.kb_world.specs.Lookup.{resolved_field, resolved_method, selected_special}
+use Rattle.kb_universe.specs.Faults.{component_of_code}
+use Rattle.kb_resolution.specs.Lookup.{resolved_field, resolved_method, selected_special}
 use Rattle.kb_semantics.specs.Config.{Config, Outcome, Setting, info_of, local_of, with_local}
 use Rattle.kb_semantics.specs.Instructions.{BySelection, CallKind, Callee, Elements, Special, Static, apply_two, array_at, array_length, callee_at, cast, class_of_entry, component_of_entry, constant_at, field_of, get_field, goto, here, if_int, if_ints, if_null, if_same, increase, instance_of, int2_value, invoke, invokes, invokes_on, is_instance, load_constant, load_element, load_int, load_reference, make_array, make_object, makes_array, narrow, negate, nop, on_array, on_object, operands_of, place_in_array, push_int, push_null, put_field, rearrange, return_int, return_nothing, return_reference, selected_at, sets_local, store_element, store_int, store_reference, switch, takes_object, throw}
 use Rattle.kb_semantics.specs.Operands.{Reference, a_reference, an_element, an_element_and_value, an_int, an_object_and_value, int_of, receiver_of, reference_of, two_ints, two_references}

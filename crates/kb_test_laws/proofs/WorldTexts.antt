@@ -20,13 +20,13 @@ use Rattle.kb_class.specs.Naming.{Has, Names}
 use Rattle.kb_class.specs.Platform.{IsPlatform, IsPlatformMethod, platform_table}
 use Rattle.kb_class.proofs.Lists.{has_cases, has_first, has_later, has_none, has_either, has_mapped, has_zipped}
 use Rattle.kb_link.specs.Links.{Links, Loads}
-use Rattle.kb_link.specs.Universe.{exact_class, given_types, is_given, is_concrete, IsNamed, AreNamedPlatform, IsNamedArray}
-use Rattle.kb_link.specs.World.{World, type_entry_of}
+use Rattle.kb_classes.specs.Universe.{exact_class, given_types, is_given, is_concrete, IsNamed, AreNamedPlatform, IsNamedArray}
+use Rattle.kb_classes.specs.World.{World, type_entry_of}
 use Rattle.kb_link.proofs.Loaded.{classes_many}
-use Rattle.kb_link.proofs.MethodNumbers.{get_either, stands_in}
+use Rattle.kb_classes.proofs.MethodNumbers.{get_either, stands_in}
 use Rattle.kb_link.proofs.SharingLaws.{in_filter}
 use Rattle.kb_semantics.specs.Config.{class_name, info_of, no_target, target_of}
-use Rattle.kb_test_lines.specs.Lines.{IsExact}
+use Rattle.kb_heap_words.specs.Words.{IsExact}
 use Rattle.kb_test_laws.specs.Texts.{IsOfBytes, NamesHaveTexts}
 use Rattle.kb_test_laws.proofs.DescriptorLaws.{held_has_text, exact_of_has_text, part_has_text}
 use Rattle.kb_test_laws.proofs.PlatformTable.{row_named, row_methods}

@@ -14,9 +14,9 @@ use Rattle.kb_heap.specs.declared.bounds.Bound.TheVariants.{K, Array}
 use Rattle.kb_heap.specs.declared.ending.Ending.{Ending}
 use Rattle.kb_heap.specs.declared.ending.Ending.TheVariants.{Returned, Threw, IllTyped, Past}
 use Rattle.kb_heap.specs.declared.heap.Object.{Object}
-use Rattle.kb_link.specs.World.{World, type_entry_of}
+use Rattle.kb_classes.specs.World.{World, type_entry_of}
 use Rattle.kb_semantics.specs.Config.{Ended, info_of, target_of}
-use Rattle.kb_test_lines.specs.Lines.{IsExact}
+use Rattle.kb_heap_words.specs.Words.{IsExact}
 
 -- the class's file is spelled by bytes
 pub record IsOfBytes (given : GivenClass) : Type 0 where

@@ -1,5 +1,4 @@
 pub mod Texts
-pub mod ReadLaws
 pub mod SameWords
 pub mod WordLists
 pub mod BoundsLine

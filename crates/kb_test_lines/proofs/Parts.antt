@@ -1,48 +1,47 @@
 -- Texts of several parts that are not read: their parts are not.
-use Rattle.std.proofs.Common.{◌≡◌, ℕ, ◌<◌, ◌^◌, List, [], ◌∷◌, ◌++◌, Option, None, Some, refl, sym, ◌∙◌, ap, arith}
+use Rattle.std.proofs.Common.{◌≡◌, ℕ, ◌<◌, ◌^◌, List, ◌∷◌, ◌++◌, Option, None, Some, MatchOption, sym, ◌∙◌, ap}
 use Rattle.std.specs.Prelude.{codes}
 use Rattle.std.specs.Fmt.{decimal}
 use Rattle.kb_names.specs.Targets.{target_text, SpellsTarget, IsTargetText}
 use Rattle.kb_names.specs.declared.types.Target.{Target}
 use Rattle.kb_names.specs.declared.types.ExactType.{ExactType}
-use Rattle.kb_heap.specs.declared.ending.Place.{Place}
-use Rattle.kb_grammar.specs.Lines.{Lacks}
+use Rattle.kb_heap.specs.declared.bounds.Bound.{Bound}
+use Rattle.kb_grammar.specs.Lines.{Lacks, IsTail, IsRead}
 use Rattle.kb_grammar.specs.Numbers.{SpellsNumber}
-use Rattle.kb_grammar.proofs.WordLaws.{same_behind, same_cut, not_lacking}
+use Rattle.kb_grammar.proofs.WordLaws.{same_behind, same_cut, same_first}
+use Rattle.kb_heap_words.specs.Words.{exact_text, bound_name, SpellsExact}
+use Rattle.kb_heap_words.proofs.Lacking.{space}
+use Rattle.kb_heap_words.proofs.WordLaws.{exact_lacks, same_bound}
 use Rattle.kb_test_lines.specs.declared.words.Word.{Word}
+use Rattle.kb_test_lines.specs.declared.outcomes.RunBound.{RunBound}
 use Rattle.kb_test_lines.specs.declared.lines.Listed.{Listed}
-use Rattle.kb_test_lines.specs.declared.lines.Line.TheVariants.{Method, Out}
-use Rattle.kb_test_lines.specs.Words.{words_text, SpellsWords, IsTail}
-use Rattle.kb_test_lines.specs.Lines.{exact_text, listed_text, place_text, line_text, IsListed, SpellsPlace, SpellsExact, SpellsListed, SpellsObjectLine, SpellsOutLine, SpellsMethodLine}
-use Rattle.kb_test_lines.proofs.Texts.{space, exact_lacks, target_lacks, digits_lack}
-use Rattle.kb_test_lines.proofs.ReadLaws.{same_first}
+use Rattle.kb_test_lines.specs.Words.{words_text, SpellsWords}
+use Rattle.kb_test_lines.specs.Lines.{listed_text, bound_of, line_text, SpellsPastLine, SpellsListed, SpellsObjectLine, SpellsOutLine, SpellsMethodLine}
 use Rattle.kb_test_lines.proofs.SameWords.{words_tail}
 use Rattle.kb_test_lines.proofs.SameLines.{digits}
 
--- ---- a method and an offset
+-- ---- a bound
 
-pub no_gap : (text : List ℕ) → Lacks 32 text → (place : Place) → SpellsPlace place text → ⊥
-no_gap text lacks place spells = not_lacking 32 (target_text place.method) (decimal place.at) text lacks (sym spells.1)
+pub no_bound : (line rest : List ℕ) → line ≡ codes "past " ++ rest → ((bound : Bound) → rest ≡ bound_name bound → ⊥) → (run : RunBound) → SpellsPastLine run line → ⊥
+no_bound line rest e none run spells = none (bound_of run) (same_behind (codes "past ") rest (bound_name (bound_of run)) (sym e ∙ spells))
 
-place_parts : (text word digits : List ℕ) → Lacks 32 word → text ≡ word ++ 32 ∷ digits → (place : Place) → SpellsPlace place text → (word ≡ target_text place.method) × (digits ≡ decimal place.at)
-place_parts text word digits lacks e place spells = same_cut 32 word (target_text place.method) digits (decimal place.at) lacks (target_lacks 32 space place.method) (sym e ∙ spells.1)
-
-pub bad_offset : (text word digits : List ℕ) → Lacks 32 word → text ≡ word ++ 32 ∷ digits → ((at : ℕ) → SpellsNumber at digits → ⊥) → (place : Place) → SpellsPlace place text → ⊥
-bad_offset text word digits lacks e none place spells = none place.at (spells.0.1, (place_parts text word digits lacks e place spells).1)
-
-pub bad_method : (text word digits : List ℕ) → Lacks 32 word → text ≡ word ++ 32 ∷ digits → (IsTargetText word → ⊥) → (place : Place) → SpellsPlace place text → ⊥
-bad_method text word digits lacks e none place spells = none (place.method, (spells.0.0, (place_parts text word digits lacks e place spells).0))
+pub past_read : (line rest : List ℕ) (bound : Bound) (read : Option RunBound) → line ≡ codes "past " ++ rest → rest ≡ bound_name bound
+    → MatchOption read ((run : RunBound) → bound ≡ bound_of run → ⊥) (λ run. bound ≡ bound_of run) → IsRead SpellsPastLine line read
+past_read line rest bound (Some run) e is h = e ∙ ap (λ (r : List ℕ). codes "past " ++ r) (is ∙ ap bound_name h)
+past_read line rest bound None e is h = λ run spells.
+    let words = same_behind (codes "past ") rest (bound_name (bound_of run)) (sym e ∙ spells) in
+    h run (same_bound bound (bound_of run) (sym is ∙ words))
 
 -- ---- an object
 
-listed_parts : (text word rest : List ℕ) → Lacks 32 word → IsTail rest → text ≡ word ++ rest → (listed : Listed) → SpellsListed listed text → (word ≡ exact_text listed.kind) × (rest ≡ words_text listed.values)
+listed_parts : (text word rest : List ℕ) → Lacks 32 word → IsTail 32 rest → text ≡ word ++ rest → (listed : Listed) → SpellsListed listed text → (word ≡ exact_text listed.kind) × (rest ≡ words_text listed.values)
 listed_parts text word rest lacks tail e listed spells =
-    same_first word (exact_text listed.kind) rest (words_text listed.values) lacks (exact_lacks 32 space listed.kind) tail (words_tail listed.values) (sym e ∙ spells.1)
+    same_first 32 word (exact_text listed.kind) rest (words_text listed.values) lacks (exact_lacks 32 space listed.kind) tail (words_tail listed.values) (sym e ∙ spells.1)
 
-pub bad_kind : (text word rest : List ℕ) → Lacks 32 word → IsTail rest → text ≡ word ++ rest → ((kind : ExactType) → SpellsExact kind word → ⊥) → (listed : Listed) → SpellsListed listed text → ⊥
+pub bad_kind : (text word rest : List ℕ) → Lacks 32 word → IsTail 32 rest → text ≡ word ++ rest → ((kind : ExactType) → SpellsExact kind word → ⊥) → (listed : Listed) → SpellsListed listed text → ⊥
 bad_kind text word rest lacks tail e none listed spells = none listed.kind (spells.0.0, (listed_parts text word rest lacks tail e listed spells).0)
 
-pub bad_values : (text word rest : List ℕ) → Lacks 32 word → IsTail rest → text ≡ word ++ rest → ((words : List Word) → SpellsWords words rest → ⊥) → (listed : Listed) → SpellsListed listed text → ⊥
+pub bad_values : (text word rest : List ℕ) → Lacks 32 word → IsTail 32 rest → text ≡ word ++ rest → ((words : List Word) → SpellsWords words rest → ⊥) → (listed : Listed) → SpellsListed listed text → ⊥
 bad_values text word rest lacks tail e none listed spells = none listed.values (spells.0.1, (listed_parts text word rest lacks tail e listed spells).1)
 
 pub good_listed : (text word rest : List ℕ) (kind : ExactType) (values : List Word) → text ≡ word ++ rest → SpellsExact kind word → SpellsWords values rest → SpellsListed (record { kind = kind; values = values }) text
@@ -59,15 +58,15 @@ bad_object front text rest number small e none parts spells =
 
 -- ---- last values behind a number
 
-out_parts : (text word rest : List ℕ) → Lacks 32 word → IsTail rest → text ≡ codes "out i" ++ (word ++ rest) → (parts : ℕ × List Word) → SpellsOutLine parts text → (word ≡ decimal parts.0) × (rest ≡ words_text parts.1)
+out_parts : (text word rest : List ℕ) → Lacks 32 word → IsTail 32 rest → text ≡ codes "out i" ++ (word ++ rest) → (parts : ℕ × List Word) → SpellsOutLine parts text → (word ≡ decimal parts.0) × (rest ≡ words_text parts.1)
 unfolding line_text
 out_parts text word rest lacks tail e parts spells =
-    same_first word (decimal parts.0) rest (words_text parts.1) lacks (digits parts.0 spells.0.0) tail (words_tail parts.1) (same_behind (codes "out i") (word ++ rest) (decimal parts.0 ++ words_text parts.1) (sym e ∙ spells.1))
+    same_first 32 word (decimal parts.0) rest (words_text parts.1) lacks (digits parts.0 spells.0.0) tail (words_tail parts.1) (same_behind (codes "out i") (word ++ rest) (decimal parts.0 ++ words_text parts.1) (sym e ∙ spells.1))
 
-pub bad_number : (text word rest : List ℕ) → Lacks 32 word → IsTail rest → text ≡ codes "out i" ++ (word ++ rest) → ((number : ℕ) → SpellsNumber number word → ⊥) → (parts : ℕ × List Word) → SpellsOutLine parts text → ⊥
+pub bad_number : (text word rest : List ℕ) → Lacks 32 word → IsTail 32 rest → text ≡ codes "out i" ++ (word ++ rest) → ((number : ℕ) → SpellsNumber number word → ⊥) → (parts : ℕ × List Word) → SpellsOutLine parts text → ⊥
 bad_number text word rest lacks tail e none parts spells = none parts.0 (spells.0.0, (out_parts text word rest lacks tail e parts spells).0)
 
-pub bad_outs : (text word rest : List ℕ) → Lacks 32 word → IsTail rest → text ≡ codes "out i" ++ (word ++ rest) → ((words : List Word) → SpellsWords words rest → ⊥) → (parts : ℕ × List Word) → SpellsOutLine parts text → ⊥
+pub bad_outs : (text word rest : List ℕ) → Lacks 32 word → IsTail 32 rest → text ≡ codes "out i" ++ (word ++ rest) → ((words : List Word) → SpellsWords words rest → ⊥) → (parts : ℕ × List Word) → SpellsOutLine parts text → ⊥
 bad_outs text word rest lacks tail e none parts spells = none parts.1 (spells.0.1, (out_parts text word rest lacks tail e parts spells).1)
 
 pub good_out : (text word rest : List ℕ) (number : ℕ) (words : List Word) → text ≡ codes "out i" ++ (word ++ rest) → SpellsNumber number word → SpellsWords words rest → SpellsOutLine (number, words) text

@@ -1,5 +1,5 @@
 -- One word spells one value.
-use Rattle.std.proofs.Common.{◌≡◌, ◌≢◌, ℕ, suc, ◌<◌, ◌≤◌, ◌^◌, List, [], ◌∷◌, ◌++◌, Option, None, Some, refl, sym, ◌∙◌, ap, arith}
+use Rattle.std.proofs.Common.{◌≡◌, ◌≢◌, ℕ, ◌<◌, ◌≤◌, ◌^◌, List, [], ◌∷◌, ◌++◌, Option, None, Some, refl, sym, ◌∙◌, ap, arith}
 use Rattle.std.specs.Prelude.{codes, ℤ, pos, negsuc, slice_index}
 use Rattle.std.specs.Int.RustNames.{FitsSigned}
 use mir.Syntax.{w32}
@@ -7,16 +7,17 @@ use Rattle.std.specs.Fmt.{decimal, signed_decimal}
 use Rattle.std.proofs.lemmas.Int.{ints}
 use Rattle.std.proofs.lemmas.Fmt.{decimal_injective, signed_decimal_injective}
 use Rattle.kb_grammar.specs.Numbers.{with_digit, with_digits}
-use Rattle.kb_grammar.proofs.WordLaws.{same_behind}
+use Rattle.kb_grammar.proofs.WordLaws.{same_behind, same_first}
 use Rattle.kb_grammar.proofs.NumberLaws.{decimal_read, int_mag}
-use Rattle.kb_grammar.specs.Lines.{Lacks}
+use Rattle.kb_grammar.proofs.ListLaws.{AreApart, same_items}
+use Rattle.kb_grammar.specs.Lines.{Lacks, IsTail}
 use Rattle.kb_test_lines.specs.declared.words.Reference.{Reference}
 use Rattle.kb_test_lines.specs.declared.words.Reference.TheVariants.{Input, Literal, Made}
 use Rattle.kb_test_lines.specs.declared.words.Word.{Word}
 use Rattle.kb_test_lines.specs.declared.words.Word.TheVariants.{Int, Null, Object}
-use Rattle.kb_test_lines.specs.Words.{reference_text, word_text, words_text, IsReference, IsWord, AreWords, IsTail}
-use Rattle.kb_test_lines.proofs.Texts.{space, word_lacks}
-use Rattle.kb_test_lines.proofs.ReadLaws.{same_first}
+use Rattle.kb_heap_words.proofs.Lacking.{space}
+use Rattle.kb_test_lines.specs.Words.{reference_text, word_text, words_text, IsReference, IsWord, AreWords}
+use Rattle.kb_test_lines.proofs.Texts.{word_lacks}
 
 pub unlike : (x y : ℕ) → x ≢ y → x ≡ y → ⊥
 unlike x y ne e = ne e
@@ -82,7 +83,7 @@ same_word (Object a) (Int b) p q e = absurd (int_no_reference b a q (sym e))
 same_word (Object a) Null p q e = absurd (null_no_reference a p (sym e))
 same_word (Object a) (Object b) p q e = ap (λ (r : Reference). Object r) (same_reference a b p q e)
 
-pub words_tail : (words : List Word) → IsTail (words_text words)
+pub words_tail : (words : List Word) → IsTail 32 (words_text words)
 words_tail [] = tt
 words_tail (word ∷ words) = refl
 
@@ -90,16 +91,20 @@ pub lacks_space : (word : Word) → IsWord word → Lacks 32 (word_text word)
 lacks_space word is = word_lacks 32 space word is
 
 -- the first of several words
-pub same_first_word : (a b : Word) (us vs : List ℕ) → IsWord a → IsWord b → IsTail us → IsTail vs → word_text a ++ us ≡ word_text b ++ vs → (a ≡ b) × (us ≡ vs)
+pub same_first_word : (a b : Word) (us vs : List ℕ) → IsWord a → IsWord b → IsTail 32 us → IsTail 32 vs → word_text a ++ us ≡ word_text b ++ vs → (a ≡ b) × (us ≡ vs)
 same_first_word a b us vs p q h k e =
-    let parts = same_first (word_text a) (word_text b) us vs (lacks_space a p) (lacks_space b q) h k e in
+    let parts = same_first 32 (word_text a) (word_text b) us vs (lacks_space a p) (lacks_space b q) h k e in
     (same_word a b p q parts.0, parts.1)
 
+-- each word of a list with a space before it
+abbrev pub spaced_word : Word → List ℕ
+spaced_word word = codes " " ++ word_text word
+
+pub words_apart : AreApart 32 IsWord spaced_word
+words_apart = record {
+  begins = λ word. (word_text word, refl);
+  same = λ a b us vs p q h k e. same_first_word a b us vs p q h k (same_behind (32 ∷ []) (word_text a ++ us) (word_text b ++ vs) e);
+}
+
 pub same_words : (xs ys : List Word) → AreWords xs → AreWords ys → words_text xs ≡ words_text ys → xs ≡ ys
-same_words [] [] p q e = refl
-same_words [] (y ∷ ys) p q e = cc
-same_words (x ∷ xs) [] p q e = cc
-same_words (x ∷ xs) (y ∷ ys) p q e =
-    let tails : word_text x ++ words_text xs ≡ word_text y ++ words_text ys = same_behind (32 ∷ []) _ _ e in
-    let parts = same_first_word x y (words_text xs) (words_text ys) p.0 q.0 (words_tail xs) (words_tail ys) tails in
-    ap (λ (w : Word). w ∷ xs) parts.0 ∙ ap (λ (l : List Word). y ∷ l) (same_words xs ys p.1 q.1 parts.1)
+same_words = same_items 32 IsWord spaced_word words_apart

@@ -1,19 +1,13 @@
 -- The lines of a test, one by one.
-use Rattle.std.specs.Prelude.{ℕ, ◌<◌, ◌≤◌, ◌^◌, ◌≡◌, Bool, true, Option, None, Some, List, [], ◌∷◌, ◌++◌, map, codes}
-use Rattle.std.specs.List.{list_all}
+use Rattle.std.specs.Prelude.{ℕ, ◌<◌, ◌≤◌, ◌^◌, ◌≡◌, Bool, true, None, Some, List, [], ◌∷◌, ◌++◌, map, codes}
 use Rattle.std.specs.Fmt.{decimal}
-use Rattle.kb_names.specs.Types.{shape_of}
-use Rattle.kb_names.specs.Escapes.{name_text}
-use Rattle.kb_names.specs.Descriptors.{type_text, IsClassName, IsType}
 use Rattle.kb_names.specs.Targets.{target_text, IsTarget}
-use Rattle.kb_names.specs.declared.class_names.Spelling.TheVariants.{Escaped}
-use Rattle.kb_names.specs.declared.types.JType.{JType}
-use Rattle.kb_names.specs.declared.types.JType.TheVariants.{Array as array_type}
-use Rattle.kb_names.specs.declared.types.ExactType.{ExactType}
-use Rattle.kb_names.specs.declared.types.ExactType.TheVariants.{Class, Array}
 use Rattle.kb_names.specs.declared.types.Target.{Target}
+use Rattle.kb_heap.specs.declared.bounds.Bound.{Bound}
+use Rattle.kb_heap.specs.declared.bounds.Bound.TheVariants as of_all
 use Rattle.kb_heap.specs.declared.bounds.RunBounds.{RunBounds}
 use Rattle.kb_heap.specs.declared.ending.Place.{Place}
+use Rattle.kb_heap_words.specs.Words.{exact_text, place_text, bound_name, IsExact, IsPlace}
 use Rattle.kb_test_lines.specs.Words.{reference_text, word_text, words_text, IsReference, IsWord, AreWords, is_below, word_below, words_below}
 use Rattle.kb_test_lines.specs.declared.words.Word.{Word}
 use Rattle.kb_test_lines.specs.declared.words.Limits.{Limits}
@@ -24,38 +18,6 @@ use Rattle.kb_test_lines.specs.declared.outcomes.Outcome.{Outcome}
 use Rattle.kb_test_lines.specs.declared.outcomes.Outcome.TheVariants.{Returns, Throws, IllTyped, Past}
 use Rattle.kb_test_lines.specs.declared.lines.Line.{Line}
 use Rattle.kb_test_lines.specs.declared.lines.Line.TheVariants.{Method, Limit, Arg, In, Ends, Out, New, End}
-
--- the type that is the array of that component
-abbrev pub array_of : JType → JType
-array_of component = array_type (shape_of component)
-
--- an exact type: the name of a class, or the descriptor of an array type
-abbrev pub exact_text : ExactType → List ℕ
-exact_text (Class name) = name_text name
-exact_text (Array component) = type_text Escaped (array_of component)
-
--- a class whose name is not empty, or an array of at most 255 dimensions
-abbrev pub IsExact : ExactType → Type 0
-IsExact (Class name) = IsClassName Escaped name
-IsExact (Array component) = IsType Escaped (array_of component)
-
-abbrev pub SpellsExact : ExactType → List ℕ → Type 0
-SpellsExact kind text = IsExact kind × (text ≡ exact_text kind)
-
--- the same of array types alone, and of classes alone
-abbrev pub IsArray : ExactType → Type 0
-IsArray (Class name) = ⊥
-IsArray (Array component) = Unit {0}
-
-abbrev pub IsClass : ExactType → Type 0
-IsClass (Class name) = Unit {0}
-IsClass (Array component) = ⊥
-
-abbrev pub SpellsArray : ExactType → List ℕ → Type 0
-SpellsArray kind text = IsArray kind × SpellsExact kind text
-
-abbrev pub SpellsClass : ExactType → List ℕ → Type 0
-SpellsClass kind text = IsClass kind × SpellsExact kind text
 
 -- an object: its exact type, and the value of each slot or element
 abbrev pub listed_text : Listed → List ℕ
@@ -97,27 +59,19 @@ pub record IsAnyBounds (bounds : RunBounds) : Type 0 where
 abbrev pub SpellsAnyBounds : RunBounds → List ℕ → Type 0
 SpellsAnyBounds bounds text = IsAnyBounds bounds × (text ≡ bounds_text bounds)
 
--- a method, and an offset in its code
-abbrev pub place_text : Place → List ℕ
-place_text place = target_text place.method ++ (codes " " ++ decimal place.at)
-
-abbrev pub IsPlace : Place → Type 0
-IsPlace place = IsTarget place.method × (place.at < 2 ^ 32)
-
-abbrev pub SpellsPlace : Place → List ℕ → Type 0
-SpellsPlace place text = IsPlace place × (text ≡ place_text place)
-
+-- an instruction that does not fit
 abbrev pub SpellsPlaceLine : Place → List ℕ → Type 0
 SpellsPlaceLine place text = IsPlace place × (text ≡ codes "illtyped " ++ place_text place)
 
-unfoldable pub bound_text : RunBound → List ℕ
-bound_text Alloc = codes "alloc"
-bound_text Loops = codes "loops"
-bound_text Depth = codes "depth"
-bound_text Steps = codes "steps"
+-- a bound of runs as one of all bounds
+abbrev pub bound_of : RunBound → Bound
+bound_of Alloc = of_all.Alloc
+bound_of Loops = of_all.Loops
+bound_of Depth = of_all.Depth
+bound_of Steps = of_all.Steps
 
 abbrev pub SpellsPastLine : RunBound → List ℕ → Type 0
-SpellsPastLine bound text = text ≡ codes "past " ++ bound_text bound
+SpellsPastLine bound text = text ≡ codes "past " ++ bound_name (bound_of bound)
 
 -- how the run ends
 unfoldable pub outcome_text : Outcome → List ℕ
@@ -125,7 +79,7 @@ outcome_text (Returns None) = codes "returns"
 outcome_text (Returns (Some word)) = codes "returns " ++ word_text word
 outcome_text (Throws reference) = codes "throws " ++ reference_text reference
 outcome_text (IllTyped place) = codes "illtyped " ++ place_text place
-outcome_text (Past bound) = codes "past " ++ bound_text bound
+outcome_text (Past bound) = codes "past " ++ bound_name (bound_of bound)
 
 abbrev pub IsOutcome : Outcome → Type 0
 IsOutcome (Returns None) = Unit {0}

@@ -1,6 +1,6 @@
 -- How the text of a test writes a value: an int, null, or an object by its kind and its number among its kind.
 use Rattle.std.specs.Prelude.{ℕ, ◌<◌, ◌^◌, ◌≡◌, Bool, true, nat_lt, List, [], ◌∷◌, ◌++◌, codes}
-use Rattle.std.specs.List.{flat_map, list_all}
+use Rattle.std.specs.List.{flat_map, list_all, AllByRecursion}
 use Rattle.std.specs.Fmt.{decimal, signed_decimal}
 use Rattle.std.specs.Int.RustNames.{FitsSigned}
 use mir.Syntax.{w32}
@@ -37,15 +37,11 @@ IsWord Null = Unit {0}
 IsWord (Object reference) = IsReference reference
 
 abbrev pub AreWords : List Word → Type 0
-AreWords [] = Unit {0}
-AreWords (word ∷ words) = IsWord word × AreWords words
+AreWords words = AllByRecursion IsWord words
 
 abbrev pub AreWordLists : List (List Word) → Type 0
 AreWordLists [] = Unit {0}
 AreWordLists (words ∷ lists) = AreWords words × AreWordLists lists
-
-abbrev pub SpellsNumberBehind : List ℕ → ℕ → List ℕ → Type 0
-SpellsNumberBehind front number text = (number < 2 ^ 32) × (text ≡ front ++ decimal number)
 
 abbrev pub SpellsReference : Reference → List ℕ → Type 0
 SpellsReference reference text = IsReference reference × (text ≡ reference_text reference)
@@ -61,11 +57,6 @@ SpellsWordBehind front word text = IsWord word × (text ≡ front ++ word_text w
 
 abbrev pub SpellsWords : List Word → List ℕ → Type 0
 SpellsWords words text = AreWords words × (text ≡ words_text words)
-
--- what stands behind the first word of a text: nothing, or a space first
-abbrev pub IsTail : List ℕ → Type 0
-IsTail [] = Unit {0}
-IsTail (byte ∷ bytes) = byte ≡ 32
 
 -- the object's number is below the limit of its kind
 abbrev pub is_below : Limits → Reference → Bool

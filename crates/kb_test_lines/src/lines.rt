@@ -2,17 +2,15 @@
 ghost use Rattle.std.specs.Prelude.{◌≡◌, ◌↔◌, IsTrue, IfOk};
 ghost use Rattle.std.specs.List.{list_all};
 ghost use Rattle.kb_grammar.specs.Lines.{IsRead};
-ghost use Rattle.kb_test_lines.specs.Lines.{listed_below, SpellsArray, SpellsClass, SpellsExact, SpellsListed, SpellsBounds, SpellsLine, SpellsMethodLine, SpellsArgLine, SpellsObjectLine, SpellsOutLine, SpellsHeapLine, IsRunBounds, SpellsAnyBounds};
+ghost use Rattle.kb_test_lines.specs.Lines.{listed_below, SpellsListed, SpellsBounds, SpellsLine, SpellsMethodLine, SpellsArgLine, SpellsObjectLine, SpellsOutLine, SpellsHeapLine, IsRunBounds, SpellsAnyBounds};
 
 use crate::NoMemory;
 use crate::outcomes::{Outcome, read_outcome};
-use crate::words::{Limits, Word, first_word, last_number, read_words, word_behind};
-use kb_grammar::{behind, is_line, number_behind, read_number};
+use crate::words::{Limits, Word, read_words, word_behind};
+use kb_grammar::{behind, first_part, is_line, last_number, number_behind, read_number};
 use kb_heap::{Row, RunBounds};
-use kb_names::{
-    ExactType, JType, NameRefusal, NameTextRefusal, Spelling, Target, TargetRefusal, read_name,
-    read_target, read_type_as,
-};
+use kb_heap_words::read_exact;
+use kb_names::{ExactType, Target, TargetRefusal, read_target};
 use kb_rows::Held;
 use std::alloc::Global;
 
@@ -55,49 +53,11 @@ impl Limits {
     }
 }
 
-// The array type of that descriptor, by its component.
-fn read_array(alloc: Global, word: &[u8]) -> Result<Option<ExactType>, NoMemory>
-    ensures { IfOk result (IsRead SpellsArray word.now) }
-{
-    match read_type_as(alloc, Spelling::Escaped, word) {
-        Ok(JType::Array(component)) => {
-            Ok(Some(ExactType::Array(component.get().copied(alloc)?)))
-        }
-        Ok(_) | Err(NameRefusal::BadDescriptor(_)) => Ok(None),
-        Err(NameRefusal::NoMemory) => Err(NoMemory),
-    }
-}
-
-// The class of that name.
-fn read_class(alloc: Global, word: &[u8]) -> Result<Option<ExactType>, NoMemory>
-    ensures { IfOk result (IsRead SpellsClass word.now) }
-{
-    match read_name(alloc, word) {
-        Ok(name) => {
-            if name.is_empty() {
-                return Ok(None);
-            }
-            Ok(Some(ExactType::Class(name)))
-        }
-        Err(NameTextRefusal::BadName(_)) => Ok(None),
-        Err(NameTextRefusal::NoMemory) => Err(NoMemory),
-    }
-}
-
-fn read_exact(alloc: Global, word: &[u8]) -> Result<Option<ExactType>, NoMemory>
-    ensures { IfOk result (IsRead SpellsExact word.now) }
-{
-    if let Some(array) = read_array(alloc, word)? {
-        return Ok(Some(array));
-    }
-    read_class(alloc, word)
-}
-
 // An object: its exact type and its values.
 fn read_listed(alloc: Global, text: &[u8]) -> Result<Option<Held<Listed>>, NoMemory>
     ensures { IfOk result (IsRead SpellsListed text.now) }
 {
-    let (word, rest) = first_word(text);
+    let (word, rest) = first_part(text, b' ');
     let Some(kind) = read_exact(alloc, word)? else {
         return Ok(None);
     };
@@ -191,7 +151,7 @@ fn read_out_line(alloc: Global, line: &[u8]) -> Result<Option<(u32, Row<Word>)>,
     let Some(text) = behind(line, b"out i") else {
         return Ok(None);
     };
-    let (digits, rest) = first_word(text);
+    let (digits, rest) = first_part(text, b' ');
     let Some(number) = read_number(digits) else {
         return Ok(None);
     };

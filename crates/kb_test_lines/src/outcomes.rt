@@ -1,14 +1,15 @@
 //! How a run ends, as the text of a test writes it.
-ghost use Rattle.std.specs.Prelude.{◌≡◌, IfOk};
+ghost use Rattle.std.specs.Prelude.{◌≡◌, IfOk, MatchOption};
 ghost use Rattle.kb_grammar.specs.Lines.{IsRead};
 ghost use Rattle.kb_test_lines.specs.Words.{SpellsReferenceBehind};
-ghost use Rattle.kb_test_lines.specs.Lines.{SpellsOutcome, SpellsPlainOutcome, SpellsPlace, SpellsPlaceLine, SpellsPastLine, outcome_below};
+ghost use Rattle.kb_test_lines.specs.Lines.{bound_of, SpellsOutcome, SpellsPlainOutcome, SpellsPlaceLine, SpellsPastLine, outcome_below};
+ghost use Rattle.kb_test_lines.specs.declared.outcomes.RunBound.{RunBound};
 
 use crate::NoMemory;
 use crate::words::{Limits, Reference, Word, read_reference, word_behind};
-use kb_grammar::{behind, cut, is_line, read_number};
-use kb_heap::Place;
-use kb_names::{TargetRefusal, read_target};
+use kb_grammar::{behind, is_line};
+use kb_heap::{Bound, Place};
+use kb_heap_words::{read_bound, read_place};
 use kb_rows::Held;
 use std::alloc::Global;
 
@@ -43,23 +44,6 @@ impl Limits {
     }
 }
 
-// A method and an offset behind it.
-fn read_place(alloc: Global, text: &[u8]) -> Result<Option<Held<Place>>, NoMemory>
-    ensures { IfOk result (IsRead SpellsPlace text.now) }
-{
-    let Some((word, digits)) = cut(text, b' ') else {
-        return Ok(None);
-    };
-    let Some(at) = read_number(digits) else {
-        return Ok(None);
-    };
-    match read_target(alloc, word) {
-        Ok(method) => Ok(Some(Held::new(alloc, Place { method, at })?)),
-        Err(TargetRefusal::BadTarget(_)) => Ok(None),
-        Err(TargetRefusal::NoMemory) => Err(NoMemory),
-    }
-}
-
 fn read_place_line(alloc: Global, line: &[u8]) -> Result<Option<Held<Place>>, NoMemory>
     ensures { IfOk result (IsRead SpellsPlaceLine line.now) }
 {
@@ -69,23 +53,25 @@ fn read_place_line(alloc: Global, line: &[u8]) -> Result<Option<Held<Place>>, No
     }
 }
 
-#[tactic(auto, unfolding(crate::specs::Lines::bound_text))]
+// The bound, if one of runs.
+fn run_bound(bound: Bound) -> Option<RunBound>
+    ensures { MatchOption result ((run : RunBound) → bound ≡ bound_of run → ⊥) (λ run. bound ≡ bound_of run) }
+{
+    match bound {
+        Bound::K | Bound::Array => None,
+        Bound::Alloc => Some(RunBound::Alloc),
+        Bound::Loops => Some(RunBound::Loops),
+        Bound::Depth => Some(RunBound::Depth),
+        Bound::Steps => Some(RunBound::Steps),
+    }
+}
+
 fn read_past_line(line: &[u8]) -> Option<RunBound>
     ensures { IsRead SpellsPastLine line.now result }
 {
-    if is_line(line, b"past alloc") {
-        return Some(RunBound::Alloc);
-    }
-    if is_line(line, b"past loops") {
-        return Some(RunBound::Loops);
-    }
-    if is_line(line, b"past depth") {
-        return Some(RunBound::Depth);
-    }
-    if is_line(line, b"past steps") {
-        return Some(RunBound::Steps);
-    }
-    None
+    let rest = behind(line, b"past ")?;
+    let bound = read_bound(rest)?;
+    run_bound(bound)
 }
 
 // An object behind that front.

@@ -1,11 +1,11 @@
 //! The words of a line, and the values that they spell.
-ghost use Rattle.std.specs.Prelude.{◌≡◌, ◌++◌, IfOk};
+ghost use Rattle.std.specs.Prelude.{◌≡◌, IfOk};
 ghost use Rattle.std.specs.List.{list_all};
-ghost use Rattle.kb_grammar.specs.Lines.{IsRead, Lacks};
-ghost use Rattle.kb_test_lines.specs.Words.{SpellsNumberBehind, SpellsReference, SpellsWord, SpellsWordBehind, SpellsWords, is_below, word_below, words_below, IsTail};
+ghost use Rattle.kb_grammar.specs.Lines.{IsRead};
+ghost use Rattle.kb_test_lines.specs.Words.{SpellsReference, SpellsWord, SpellsWordBehind, SpellsWords, is_below, word_below, words_below};
 
 use crate::NoMemory;
-use kb_grammar::{behind, cut, is_line, read_int, read_number};
+use kb_grammar::{behind, first_part, is_line, last_number, read_int};
 use kb_heap::Row;
 use std::alloc::Global;
 
@@ -85,13 +85,6 @@ impl Limits {
     }
 }
 
-// The number that stands behind that front, up to the end.
-pub(crate) fn last_number(text: &[u8], front: &[u8]) -> Option<u32>
-    ensures { IsRead (SpellsNumberBehind front.now) text.now result }
-{
-    read_number(behind(text, front)?)
-}
-
 #[tactic(auto, unfolding(crate::specs::Words::reference_text))]
 pub(crate) fn read_reference(word: &[u8]) -> Option<Reference>
     ensures { IsRead SpellsReference word.now result }
@@ -125,18 +118,6 @@ pub(crate) fn word_behind(text: &[u8], front: &[u8]) -> Option<Word>
     read_word(behind(text, front)?)
 }
 
-// The first word of a text, and what stands behind it, with the space before it.
-pub(crate) fn first_word(text: &[u8]) -> (&[u8], &[u8])
-    ensures word { Lacks 32 result.0.now }
-    ensures rest { IsTail result.1.now }
-    ensures text { text.now ≡ result.0.now ++ result.1.now }
-{
-    match cut(text, b' ') {
-        Some((word, _)) => (word, &text[word.len()..]),
-        None => (text, &[]),
-    }
-}
-
 // The values that are spelled so, each with a space before it.
 pub(crate) fn read_words(alloc: Global, text: &[u8]) -> Result<Option<Row<Word>>, NoMemory>
     ensures { IfOk result (IsRead SpellsWords text.now) }
@@ -144,7 +125,7 @@ pub(crate) fn read_words(alloc: Global, text: &[u8]) -> Result<Option<Row<Word>>
     let mut words = Row::new(alloc);
     let mut rest = text;
     while let Some(others) = behind(rest, b" ") {
-        let (word, left) = first_word(others);
+        let (word, left) = first_part(others, b' ');
         let Some(value) = read_word(word) else {
             return Ok(None);
         };

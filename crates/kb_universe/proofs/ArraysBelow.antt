@@ -16,13 +16,14 @@ use Rattle.kb_names.specs.declared.types.JType.{JType}
 use Rattle.kb_class.specs.Class.{Class}
 use Rattle.kb_class.specs.Naming.{Has}
 use Rattle.kb_link.specs.Links.{IsLinked}
-use Rattle.kb_link.specs.Subtypes.{is_above_arrays, is_below, is_super, shape_of_exact, fits_base, fits_array, fits_shape}
-use Rattle.kb_link.specs.World.{World, number_in}
-use Rattle.kb_link.specs.Universe.{IsElement, IsNamedArray}
-use Rattle.kb_link.proofs.Named.{number_inside}
-use Rattle.kb_link.proofs.MethodNumbers.{none_named, number_of_named}
+use Rattle.kb_classes.specs.Subtypes.{is_above_arrays, is_below, is_super, shape_of_exact, fits_base, fits_array, fits_shape}
+use Rattle.kb_classes.specs.World.{World, number_in}
+use Rattle.kb_classes.specs.Universe.{IsElement, IsNamedArray}
+use Rattle.kb_classes.proofs.Named.{number_inside}
+use Rattle.kb_classes.proofs.MethodNumbers.{none_named, number_of_named}
 use Rattle.kb_universe.specs.Marks.{name_of_base, most_over, longest_of, is_array_below, reach, HasLowArray}
-use Rattle.kb_universe.proofs.Lists.{any_some, any_true, get_there, same_test}
+use Rattle.kb_universe.proofs.Lists.{any_some, any_true, get_there}
+use Rattle.kb_classes.proofs.Walks.{same_test}
 use Rattle.kb_universe.proofs.Members.{has_array}
 use Rattle.kb_universe.proofs.Reaching.{reached, reaching, longest_has, has_longest, most_longest}
 

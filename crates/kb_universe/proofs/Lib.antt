@@ -3,3 +3,5 @@ pub mod Members
 pub mod Reaching
 pub mod ArraysBelow
 pub mod MarkLaws
+pub mod FoundMarks
+pub mod Asking

@@ -69,9 +69,3 @@ pub get_there : {A : Type 0} (xs : List A) (place : ℕ) → place < length xs �
 get_there [] place inside = absurd (omega (arith, inside))
 get_there (x ∷ xs) zero inside = (x, refl)
 get_there (x ∷ xs) (suc place) inside = get_there xs place (omega (arith, inside))
-
--- two tests that tell the same
-pub same_test : (a b : Bool) → (a ≡ true → b ≡ true) → (b ≡ true → a ≡ true) → a ≡ b
-same_test true b to from = sym (to refl)
-same_test false true to from = from refl
-same_test false false to from = refl

@@ -10,10 +10,10 @@ use Rattle.kb_names.specs.declared.types.JType.{JType}
 use Rattle.kb_names.specs.declared.types.ExactType.{ExactType}
 use Rattle.kb_names.specs.declared.types.ExactType.TheVariants as exact
 use Rattle.kb_class.specs.Class.{Class}
-use Rattle.kb_link.specs.Subtypes.{shape_of_exact}
-use Rattle.kb_link.specs.World.{number_in}
-use Rattle.kb_link.proofs.Named.{number_inside}
-use Rattle.kb_link.proofs.Walks.{next_rest}
+use Rattle.kb_classes.specs.Subtypes.{shape_of_exact}
+use Rattle.kb_classes.specs.World.{number_in}
+use Rattle.kb_classes.proofs.Named.{number_inside}
+use Rattle.kb_classes.proofs.Walks.{next_rest}
 use Rattle.kb_universe.specs.Marks.{class_types, element_in, is_class_at, is_element_at, dims_over, most_over, longest_of}
 use Rattle.kb_universe.proofs.Reaching.{IsNumbered, numbered}
 

@@ -11,10 +11,10 @@ use Rattle.kb_names.specs.declared.types.JType.{JType}
 use Rattle.kb_class.specs.Class.{Class}
 use Rattle.kb_class.specs.Naming.{Has}
 use Rattle.kb_class.proofs.Lists.{has_none, has_first, has_later, has_cases, has_right, has_either, map_has, has_mapped}
-use Rattle.kb_link.specs.World.{World, number_in}
-use Rattle.kb_link.specs.Universe.{is_given, is_concrete, exact_class, given_types, AreNamedPlatform, IsUniverse}
-use Rattle.kb_link.proofs.Named.{number_right}
-use Rattle.kb_link.proofs.MethodNumbers.{none_named}
+use Rattle.kb_classes.specs.World.{World, number_in}
+use Rattle.kb_classes.specs.Universe.{is_given, is_concrete, exact_class, given_types, AreNamedPlatform, IsUniverse}
+use Rattle.kb_classes.proofs.Named.{number_right}
+use Rattle.kb_classes.proofs.MethodNumbers.{none_named}
 use Rattle.kb_universe.specs.Marks.{is_class_type, class_types, is_class_at}
 use Rattle.kb_universe.proofs.Lists.{any_some, any_true, filter_in, filter_all, filter_no, filter_both, take_front}
 

@@ -12,10 +12,10 @@ use Rattle.kb_names.specs.declared.types.JType.{JType}
 use Rattle.kb_class.specs.Class.{Class}
 use Rattle.kb_class.specs.Naming.{Has}
 use Rattle.kb_class.proofs.Lists.{has_none, has_first, has_later, has_cases}
-use Rattle.kb_link.specs.Subtypes.{shape_of_exact}
-use Rattle.kb_link.specs.World.{World, number_in}
-use Rattle.kb_link.specs.Universe.{IsElement, IsNamedArray, IsUniverse}
-use Rattle.kb_link.proofs.Named.{number_right}
+use Rattle.kb_classes.specs.Subtypes.{shape_of_exact}
+use Rattle.kb_classes.specs.World.{World, number_in}
+use Rattle.kb_classes.specs.Universe.{IsElement, IsNamedArray, IsUniverse}
+use Rattle.kb_classes.proofs.Named.{number_right}
 use Rattle.kb_universe.specs.Marks.{element_in, is_element_at, dims_over, most_over, longest_of, reach}
 use Rattle.kb_universe.proofs.Members.{array_has, has_array}
 

@@ -1,1 +1,4 @@
 pub mod Marks
+pub mod Faults
+pub mod Uses
+pub mod Found

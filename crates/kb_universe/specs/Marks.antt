@@ -1,4 +1,4 @@
--- Marks of a world's universe (kb_link `specs/Universe.antt`): with each array type it has the component arrays, so that of each
+-- Marks of a world's universe (kb_classes `specs/Universe.antt`): with each array type it has the component arrays, so that of each
 -- element the most dimensions tell which arrays it has.
 use Rattle.std.specs.Prelude.{◌≡◌, ℕ, suc, ◌+◌, ◌^◌, ◌<◌, max, Bool, true, false, ◌==◌, List, [], ◌∷◌, length, filter, Option, Some, None, slice_index_or, if◌then◌else◌}
 use Rattle.std.specs.List.{list_any}
@@ -8,8 +8,8 @@ use Rattle.kb_names.specs.Types.{shape_of}
 use Rattle.kb_names.specs.declared.types.ExactType.{ExactType}
 use Rattle.kb_names.specs.declared.types.ExactType.TheVariants as exact
 use Rattle.kb_class.specs.Class.{Class}
-use Rattle.kb_link.specs.Subtypes.{shape_of_exact, fits, type_of_exact, is_super}
-use Rattle.kb_link.specs.World.{World, number_in}
+use Rattle.kb_classes.specs.Subtypes.{shape_of_exact, fits, type_of_exact, is_super}
+use Rattle.kb_classes.specs.World.{World, number_in}
 use Rattle.kb_universe.specs.declared.marks.Marks.{Marks}
 
 -- ---- classes

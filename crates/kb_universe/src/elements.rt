@@ -22,7 +22,7 @@ pub(crate) fn dims_of(of: &JType) -> u32
 }
 
 /// The class that the type is, or that its elements are.
-pub fn element_class(of: &JType) -> Option<&Name>
+pub(crate) fn element_class(of: &JType) -> Option<&Name>
     ensures { option_copied result ≡ name_of_base (shape_of of.now).base }
 {
     let mut element = of;

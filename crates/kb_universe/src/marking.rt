@@ -2,7 +2,7 @@
 ghost use Rattle.std.specs.Prelude.{◌≡◌, ℕ, suc, ◌+◌, ◌||◌, ◌∷◌, [], false, max, length, slice_index_or, IfOk, OnOk};
 ghost use Rattle.std.specs.List.{list_any};
 ghost use Rattle.kb_names.specs.Types.{shape_of};
-ghost use Rattle.kb_link.specs.Subtypes.{shape_of_exact};
+ghost use Rattle.kb_classes.specs.Subtypes.{shape_of_exact};
 ghost use Rattle.kb_universe.specs.Marks.{class_types, is_class_at, dims_over, most_over, longest_of};
 
 use crate::elements::{dims_of, element_number};

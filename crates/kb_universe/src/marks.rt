@@ -5,7 +5,7 @@ ghost use Rattle.kb_names.specs.Types.{shape_of};
 ghost use Rattle.kb_names.specs.declared.types.ExactType.TheVariants as exact;
 ghost use Rattle.kb_class.specs.Naming.{Has};
 ghost use Rattle.kb_link.specs.Links.{IsLinked};
-ghost use Rattle.kb_link.specs.Subtypes.{fits_array, is_above_arrays, is_super};
+ghost use Rattle.kb_classes.specs.Subtypes.{fits_array, is_above_arrays, is_super};
 ghost use Rattle.kb_universe.specs.Marks.{class_types, is_array_below, HaveMarks, reach, HasLowArray};
 
 use crate::elements::{dims_of, element_class, element_number};

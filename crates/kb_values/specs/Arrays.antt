@@ -4,7 +4,7 @@ use Rattle.std.specs.Option.{option_map_or}
 use Rattle.kb_names.specs.declared.types.JType.{JType}
 use Rattle.kb_heap.specs.declared.heap.Value.{Value}
 use Rattle.kb_heap.specs.declared.heap.Heap.{Heap}
-use Rattle.kb_link.specs.World.{World}
+use Rattle.kb_classes.specs.World.{World}
 use Rattle.kb_semantics.specs.Values.{kept}
 use Rattle.kb_semantics.specs.Instructions.{Elements, array_at, place_in_array, takes_object}
 use Rattle.kb_values.specs.declared.arrays.Elements.{Elements as FoundElements}

@@ -3,7 +3,7 @@
 ghost use Rattle.std.specs.Prelude.{◌≡◌, IfOk};
 ghost use Rattle.std.specs.Option.{option_map_or};
 ghost use Rattle.kb_arith.specs.Word.{truth};
-ghost use Rattle.kb_link.specs.Subtypes.{type_of_exact};
+ghost use Rattle.kb_classes.specs.Subtypes.{type_of_exact};
 ghost use Rattle.kb_semantics.specs.Instructions.{is_instance};
 
 use crate::NoMemory;

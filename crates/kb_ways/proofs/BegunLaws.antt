@@ -1,6 +1,6 @@
 -- The frame with which a run goes on is the one in which it stands.
 use Rattle.std.proofs.Common.{◌≡◌, ℕ, List, slice_get, Option, Some, None, refl}
-use Rattle.kb_link.specs.World.{World}
+use Rattle.kb_classes.specs.World.{World}
 use Rattle.kb_semantics.specs.Config.{instruction_at}
 use Rattle.kb_terms.specs.declared.node.Node.{Node}
 use Rattle.kb_frames.specs.declared.state.Stage.{Stage}

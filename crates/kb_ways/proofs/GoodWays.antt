@@ -1,6 +1,6 @@
 -- A way that leads on with values of the state leaves a state of values: one lemma for each way.
 use Rattle.std.proofs.Common.{◌≡◌, ℕ, ◌≤◌, List, [], length, Option, refl, subst}
-use Rattle.kb_link.specs.World.{World}
+use Rattle.kb_classes.specs.World.{World}
 use Rattle.kb_semantics.specs.Config.{max_locals_of, has_room}
 use Rattle.kb_picture.specs.declared.choice.Choice.{Choice}
 use Rattle.kb_frames.specs.declared.value.SymValue.{SymValue}

@@ -2,10 +2,10 @@
 use Rattle.std.proofs.Common.{◌≡◌, pos, Bool, true, false, Option, Some, None, refl, sym, ap, ◌∙◌}
 use Rattle.std.specs.Option.{option_and_then}
 use Rattle.std.proofs.lemmas.Option.{none-some, same_Some}
-use Rattle.kb_link.specs.World.{World}
+use Rattle.kb_classes.specs.World.{World}
 use Rattle.kb_names.specs.declared.types.JType.{JType}
 use Rattle.kb_names.specs.declared.types.JType.TheVariants as types
-use Rattle.kb_world.specs.Lookup.{only_where}
+use Rattle.kb_resolution.specs.Lookup.{only_where}
 use Rattle.kb_semantics.specs.Config.{result_of}
 use Rattle.kb_terms.specs.declared.op.Op.TheVariants.{And}
 use Rattle.kb_terms.specs.declared.node.Node.TheVariants.{Const}
@@ -21,7 +21,7 @@ use Rattle.kb_ways.specs.Plans.{Planned, leaves_with, plain, planned, returns_va
 use Rattle.kb_ways.specs.Ways.{Fails}
 use Rattle.kb_ways.proofs.AskedLaws.{interned_is_term}
 use Rattle.kb_ways.proofs.GrowLaws.{HasMore, goes_on_behind, interned_goes_on, more_itself, more_terms, op_goes_on}
-use Rattle.kb_ways.proofs.ItemLaws.{only_has}
+use Rattle.kb_frames.proofs.ItemLaws.{only_has}
 
 -- ---- values of a kind
 

@@ -1,9 +1,7 @@
-pub mod AlikeLaws
 pub mod AskedLaws
 pub mod BegunLaws
 pub mod GoodWays
 pub mod GrowLaws
-pub mod ItemLaws
 pub mod KeepLaws
 pub mod LocalLaws
 pub mod MeasureLaws

@@ -4,7 +4,7 @@ use Rattle.std.specs.Option.{option_map, option_and_then}
 use Rattle.std.proofs.lemmas.Option.{slice_get-map}
 use Rattle.kb_class.specs.declared.ids.MethodId.{MethodId}
 use Rattle.kb_heap.specs.declared.heap.Value.{Value}
-use Rattle.kb_world.specs.Lookup.{only_where}
+use Rattle.kb_resolution.specs.Lookup.{only_where}
 use Rattle.kb_semantics.specs.Config.{Setting, Config, Outcome, local_of, max_locals_of}
 use Rattle.kb_semantics.specs.Instructions.{with, sets_local}
 use Rattle.kb_semantics.specs.Ways.{ill_typed, goes_on, jumps, throws, hands_over}

@@ -9,8 +9,8 @@ use Rattle.kb_code.specs.Listing.{HasRisingKeys, offset_of}
 use Rattle.kb_code.specs.declared.instruction.Instr.{Instr}
 use Rattle.kb_code.specs.declared.listing.Handler.{Handler}
 use Rattle.kb_link.specs.Links.{IsLinked}
-use Rattle.kb_link.specs.Rules.{HasItsPlaces, HasPlacedCode}
-use Rattle.kb_link.specs.World.{World, methods_in}
+use Rattle.kb_classes.specs.Rules.{HasItsPlaces, HasPlacedCode}
+use Rattle.kb_classes.specs.World.{World, methods_in}
 use Rattle.kb_semantics.specs.Config.{code_of, info_of, instruction_in, instruction_at}
 use Rattle.kb_picture.specs.declared.choice.Init.{Init}
 use Rattle.kb_picture.specs.WellTyped.{IsWellTyped}

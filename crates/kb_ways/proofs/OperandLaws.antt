@@ -7,7 +7,7 @@ use Rattle.kb_frames.specs.declared.value.SymValue.{SymValue}
 use Rattle.kb_frames.specs.declared.value.SymValue.TheVariants.{Int, Null, Obj, Literal, New, Loc}
 use Rattle.kb_ways.specs.Operands.{an_int, int_term, two_ints, a_reference, an_object_and_value, of_kind, reference}
 use Rattle.kb_ways.specs.Needs.{IsTermOf, HasTerms}
-use Rattle.kb_ways.proofs.ItemLaws.{two_parts}
+use Rattle.kb_frames.proofs.ItemLaws.{two_parts}
 use Rattle.kb_frames.specs.Lent.{stack_of}
 use Rattle.kb_frames.specs.State.{State}
 use Rattle.kb_ways.proofs.KeptLaws.{of_kind_is, reference_is}

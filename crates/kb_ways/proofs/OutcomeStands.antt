@@ -8,7 +8,7 @@ use Rattle.kb_class.specs.declared.members.MethodInfo.{MethodInfo}
 use Rattle.kb_heap.specs.declared.heap.Heap.{Heap}
 use Rattle.kb_heap.specs.declared.heap.Input.{Input}
 use Rattle.kb_heap.specs.declared.heap.Value.{Value}
-use Rattle.kb_link.specs.World.{World}
+use Rattle.kb_classes.specs.World.{World}
 use Rattle.kb_names.specs.declared.types.JType.{JType}
 use Rattle.kb_semantics.specs.Config.{Setting, Config, Frame, first_locals, max_locals_of}
 use Rattle.kb_semantics.specs.Inputs.{IsTypeCorrect, argument_types}
@@ -25,7 +25,7 @@ use Rattle.kb_frames.specs.StandsFor.{FrameStandsFor, FramesStandFor, IsOfRun, S
 use Rattle.kb_frames.specs.State.{State}
 use Rattle.kb_frames.specs.States.{Each, IsFrame, IsLocal, IsStage, IsSymValue}
 use Rattle.kb_ways.specs.Reached.{IsAlone}
-use Rattle.kb_ways.proofs.ItemLaws.{each_append, each_copy, each_mapped, no_items}
+use Rattle.kb_frames.proofs.ItemLaws.{each_append, each_copy, each_mapped, no_items}
 
 -- The frame of a state whose arguments are read.
 pub record Running (world : World) (old : State) (stage : Stage) (r : Reading) (c : Config) : Type 0 where

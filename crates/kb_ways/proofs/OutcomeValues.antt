@@ -8,7 +8,7 @@ use Rattle.kb_heap.specs.declared.heap.Input.{Input}
 use Rattle.kb_heap.specs.declared.heap.Value.{Value}
 use Rattle.kb_heap.specs.declared.heap.Value.TheVariants.{Int as IntValue, Ref}
 use Rattle.kb_heap.specs.Heap.{value_at}
-use Rattle.kb_link.specs.World.{World}
+use Rattle.kb_classes.specs.World.{World}
 use Rattle.kb_semantics.specs.Config.{Frame}
 use Rattle.kb_terms.specs.declared.node.TermId.{TermId}
 use Rattle.kb_terms.specs.declared.node.Node.{Node}
@@ -28,8 +28,9 @@ use Rattle.kb_frames.specs.declared.value.SymValue.TheVariants.{Int, Null, Obj, 
 use Rattle.kb_frames.specs.StandsFor.{FrameStandsFor, HeapStandsFor, made_at, present_value, reading_at, value_of_sym, values_of_sym}
 use Rattle.kb_frames.specs.State.{State, cell_at}
 use Rattle.kb_frames.specs.States.{AreCells, Each, IsCell, IsFrame, IsMade, IsSymValue}
-use Rattle.kb_ways.proofs.AlikeLaws.{cell_alike, frame_alike, objects_alike, values_alike}
-use Rattle.kb_ways.proofs.ItemLaws.{each_rest}
+use Rattle.kb_frames.proofs.MoreLaws.{cells_sound}
+use Rattle.kb_frames.proofs.AlikeLaws.{cell_alike, frame_alike, objects_alike, values_alike}
+use Rattle.kb_frames.proofs.ItemLaws.{each_rest}
 
 -- a later reading has the same places, and gives the terms of a pool the same values
 pub record IsLater (r later : Reading) (nodes : List Node) : Type 0 where
@@ -59,32 +60,10 @@ module _ (world : World) (state : State) (r later : Reading) (is : IsLater r lat
   pub cell_later : (first : Option Value) (cell : Cell) → IsCell world state cell → present_value later first cell ≡ present_value r first cell
   cell_later = cell_alike world state r later value_later
 
--- ---- cells
-
-row_cell : (P : Cell → Type 0) (row : List Cell) (slot : ℕ) → P Untouched → Each P row → P (slice_index_or row slot Untouched)
-row_cell P [] zero u each = u
-row_cell P [] (suc slot) u each = u
-row_cell P (cell ∷ row) zero u each = each 0 cell refl
-row_cell P (cell ∷ row) (suc slot) u each = row_cell P row slot u (each_rest P cell row each)
-
-rows_cell : (P : Cell → Type 0) (rows : List (List Cell)) (object slot : ℕ) → P Untouched → ((n : ℕ) (row : List Cell) → slice_get rows n ≡ Some row → Each P row) → P (cell_at rows object slot)
-rows_cell P [] zero slot u each = row_cell P [] slot u (λ i item e. absurd cc)
-rows_cell P [] (suc object) slot u each = row_cell P [] slot u (λ i item e. absurd cc)
-rows_cell P (row ∷ rows) zero slot u each = row_cell P row slot u (each 0 row refl)
-rows_cell P (row ∷ rows) (suc object) slot u each = rows_cell P rows object slot u (λ n r e. each (suc n) r e)
-
 pub there : {A : Type 0} (xs : List A) (i : ℕ) → i < length xs → (x : A) × (slice_get xs i ≡ Some x)
 there [] i h = absurd (omega (arith, h))
 there (x ∷ xs) zero h = (x, refl)
 there (x ∷ xs) (suc i) h = there xs i (omega (arith, h))
-
-pub cells_sound : (world : World) (state : State) (object slot : ℕ) → AreCells world state → IsCell world state (cell_at state.cells object slot)
-cells_sound world state object slot are = rows_cell (IsCell world state) state.cells object slot tt each where
-  each : (n : ℕ) (row : List Cell) → slice_get state.cells n ≡ Some row → Each (IsCell world state) row
-  each n row e =
-      let inside : n < length state.cells = slice_get_within state.cells n row e in
-      let object = there state.picture.objects n (omega (arith, inside, are.count)) in
-      (are.each n object.0 row object.1 e).1
 
 -- ---- the heap
 

@@ -18,8 +18,8 @@ use Rattle.kb_heap.specs.declared.heap.Object.{Object}
 use Rattle.kb_heap.specs.declared.heap.Value.{Value}
 use Rattle.kb_heap.specs.declared.heap.Value.TheVariants.{Int as IntValue}
 use Rattle.kb_heap.specs.Heap.{object_at, value_at, with_object, literal}
-use Rattle.kb_link.specs.World.{World}
-use Rattle.kb_link.specs.declared.slots.FieldSlot.{FieldSlot}
+use Rattle.kb_classes.specs.World.{World}
+use Rattle.kb_classes.specs.declared.slots.FieldSlot.{FieldSlot}
 use Rattle.kb_names.specs.declared.types.ExactType.{ExactType}
 use Rattle.kb_names.specs.declared.types.ExactType.TheVariants as exact
 use Rattle.kb_names.specs.declared.types.JType.{JType}
@@ -63,7 +63,8 @@ use Rattle.kb_ways.specs.Ways.{Take, Way, Goes, Jumps, Leaves, Throws, Fails, ca
 use Rattle.kb_ways.proofs.GrowLaws.{interned_extends}
 use Rattle.kb_ways.proofs.OneInstances.{same_variables}
 use Rattle.kb_ways.proofs.LocalLaws.{led_to}
-use Rattle.kb_ways.proofs.OutcomeValues.{IsLater, cell_later, cells_sound, heap_later, objects_later, reading_int, reading_later}
+use Rattle.kb_frames.proofs.MoreLaws.{cells_sound}
+use Rattle.kb_ways.proofs.OutcomeValues.{IsLater, cell_later, heap_later, objects_later, reading_int, reading_later}
 use Rattle.kb_ways.proofs.PastLaws.{runs_past}
 use Rattle.kb_ways.proofs.SoundLaws.{Sound}
 use Rattle.kb_ways.proofs.ValueLaws.{constant_made}

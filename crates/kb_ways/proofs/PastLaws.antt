@@ -7,7 +7,7 @@ use Rattle.kb_heap.specs.declared.bounds.Bound.TheVariants.{Steps}
 use Rattle.kb_heap.specs.declared.bounds.Bounds.{Bounds}
 use Rattle.kb_heap.specs.declared.ending.Ending.TheVariants.{Past}
 use Rattle.kb_heap.specs.declared.heap.Input.{Input}
-use Rattle.kb_link.specs.World.{World}
+use Rattle.kb_classes.specs.World.{World}
 use Rattle.kb_semantics.specs.Config.{Setting, Config, Ended, Outcome, Goes, Ends, instruction_at}
 use Rattle.kb_semantics.specs.Step.{effect, step, follow, run, run_of, next_config, config_at}
 use Rattle.kb_semantics.specs.Ways.{ill_typed, past}

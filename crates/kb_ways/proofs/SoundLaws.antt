@@ -13,15 +13,15 @@ use Rattle.kb_blast.proofs.Listed.{is-operation}
 use Rattle.kb_class.specs.Naming.{Has}
 use Rattle.kb_class.specs.declared.members.MethodInfo.{MethodInfo}
 use Rattle.kb_class.specs.Members.{is_static}
-use Rattle.kb_link.proofs.Places.{get_pushed}
-use Rattle.kb_link.specs.World.{World}
-use Rattle.kb_link.specs.declared.slots.FieldSlot.{FieldSlot}
+use Rattle.kb_classes.proofs.Places.{get_pushed}
+use Rattle.kb_classes.specs.World.{World}
+use Rattle.kb_classes.specs.declared.slots.FieldSlot.{FieldSlot}
 use Rattle.kb_names.specs.declared.types.JType.{JType}
 use Rattle.kb_semantics.specs.Config.{class_name, info_of, max_locals_of}
 use Rattle.kb_semantics.specs.Inputs.{argument_types}
 use Rattle.kb_semantics.specs.Looks.{numbers_below}
 use Rattle.kb_semantics.specs.Values.{slots_of_class}
-use Rattle.kb_world.specs.Faults.{is_left_out}
+use Rattle.kb_resolution.specs.LeftOut.{is_left_out}
 use Rattle.kb_terms.specs.declared.node.TermId.{TermId}
 use Rattle.kb_terms.specs.declared.node.Node.{Node}
 use Rattle.kb_terms.specs.declared.node.Node.TheVariants.{Const, Var, Op as Apply}
@@ -34,11 +34,13 @@ use Rattle.kb_picture.specs.declared.picture.Origin.TheVariants.{Arg}
 use Rattle.kb_picture.specs.declared.picture.PicLoc.{PicLoc}
 use Rattle.kb_picture.specs.declared.picture.PicObject.{PicObject}
 use Rattle.kb_picture.specs.declared.picture.Picture.{Picture}
+use Rattle.kb_picture.specs.Finding.{IsFoundFirst}
 use Rattle.kb_picture.specs.Growing.{HoldsInt, IsUnread, params_of}
 use Rattle.kb_picture.specs.Growth.{after_int_read}
 use Rattle.kb_picture.specs.Queries.{kind_for, kind_seen, kinds_seen}
 use Rattle.kb_picture.specs.WellFormed.{slots_seen, variables_seen}
 use Rattle.kb_picture.specs.WellTyped.{IsReceiverSeen, IsWellTyped, is_int_type, is_reference_type}
+use Rattle.kb_picture.proofs.FoundLaws.{int_found}
 use Rattle.kb_picture.proofs.GrownTypes.{int_typed}
 use Rattle.kb_frames.specs.declared.frame.SymFrame.{SymFrame}
 use Rattle.kb_frames.specs.declared.state.Stage.{Stage}
@@ -61,7 +63,7 @@ use Rattle.kb_ways.specs.Reached.{HasNoHandlers, HasNoneLeftOut, HasReadReceiver
 use Rattle.kb_ways.specs.Ways.{carries_out}
 use Rattle.kb_ways.proofs.AskedLaws.{interned_is_term, interned_node, later_node, no_constant, not_folded}
 use Rattle.kb_ways.proofs.GrowLaws.{GoesOn, Grows, all_asked_grows, condition_goes_on, interned_goes_on}
-use Rattle.kb_ways.proofs.ItemLaws.{each_append, each_cons, each_copy, each_map, each_mapped, no_items, none_passes}
+use Rattle.kb_frames.proofs.ItemLaws.{each_append, each_cons, each_copy, each_map, each_mapped, no_items, none_passes}
 use Rattle.kb_ways.proofs.PictureLaws.{receiver_still, slots_are}
 use Rattle.kb_names.specs.declared.types.JType.TheVariants as types
 use Rattle.kb_picture.specs.declared.picture.Seen.TheVariants as seens
@@ -70,6 +72,7 @@ use Rattle.kb_picture.specs.declared.picture.Seen.TheVariants as seens
 
 pub record Sound (world : World) (state : State) : Type 0 where
   pub typed : IsWellTyped world state.method state.picture
+  pub found : IsFoundFirst state.picture
   pub kinds : kinds_of state.nodes ≡ kinds_seen world state.method state.picture
   pub conditions : AreConditions state.nodes state.when
   pub stage : IsStage world state state.stage
@@ -84,6 +87,7 @@ pub record Sound (world : World) (state : State) : Type 0 where
 pub sound_reached : (world : World) (state : State) → IsReached world state → IsAlone state.method state.stage → HasNoHandlers world state.method → Sound world state
 sound_reached world state h alone unhandled = record {
   typed = h.typed;
+  found = h.sound.found;
   kinds = h.sound.kinds;
   conditions = h.sound.conditions;
   stage = h.sound.stage;
@@ -102,6 +106,7 @@ reached_sound world state h pool = record {
     info = h.typed.method;
     info_is = h.typed.method_is;
     picture = h.typed.formed;
+    found = h.found;
     pool = pool;
     kinds = h.kinds;
     conditions = h.conditions;
@@ -241,6 +246,7 @@ module _ (world : World) (state : State) (nodes : List Node) (when : List (TermI
   pub grown_sound : Sound world grown_state
   grown_sound = record {
     typed = sound.typed;
+    found = sound.found;
     kinds = on.kinds ∙ sound.kinds;
     conditions = are;
     stage = stage_still state.stage sound.stage;
@@ -286,6 +292,7 @@ module _ (world : World) (state : State) (frame : SymFrame) (callers : List SymF
     running_sound : Sound world (carried_state (Runs frame callers))
     running_sound = record {
       typed = sound.typed;
+      found = sound.found;
       kinds = sound.kinds;
       conditions = sound.conditions;
       stage = (
@@ -344,6 +351,7 @@ module _ (world : World) (state : State) (class : List ℕ) (sound : Sound world
   pub made_sound : Sound world made_state
   made_sound = record {
     typed = sound.typed;
+    found = sound.found;
     kinds = zero_on.kinds ∙ sound.kinds;
     conditions = conditions_still state.nodes zero_made.0 state.when zero_on.terms sound.conditions;
     stage = made_stage state.stage sound.stage;
@@ -514,6 +522,7 @@ module _ (world : World) (state : State) (sound : Sound world state) where
     pub read_sound : Sound world read_state
     read_sound = record {
       typed = int_typed world state.method state.picture (Arg n) sound.typed unread holds;
+      found = int_found world (params_of world sound.typed.method) state.picture (Arg n) unread sound.found;
       kinds = one_kind;
       conditions = conditions_still state.nodes nodes state.when (extends-more state.nodes (Var v kind)) sound.conditions;
       stage = record {
@@ -593,6 +602,7 @@ module _ (world : World) (state : State) (sound : Sound world state) (none : arg
     go (Runs frame callers) is = subst (λ (s : Stage). Sound world (record state { stage = s })) is sound
     go (Begins read) is = record {
       typed = sound.typed;
+      found = sound.found;
       kinds = sound.kinds;
       conditions = sound.conditions;
       stage = (begun_frame read (subst (IsStage world state) is sound.stage), no_items (IsFrame world (begun_state (Begins read))));

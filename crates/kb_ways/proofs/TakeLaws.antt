@@ -2,7 +2,7 @@
 use Rattle.std.proofs.Common.{◌≡◌, ℕ, ◌<◌, List, Option, Some, None, slice_get, refl, sym, ap, subst, is_some}
 use Rattle.std.specs.Option.{option_map, option_and_then}
 use Rattle.kb_heap.specs.declared.bounds.Bounds.{Bounds}
-use Rattle.kb_link.specs.World.{World}
+use Rattle.kb_classes.specs.World.{World}
 use Rattle.kb_names.specs.declared.types.JType.{JType}
 use Rattle.kb_terms.specs.declared.node.Node.{Node}
 use Rattle.kb_terms.specs.Terms.{Extends}

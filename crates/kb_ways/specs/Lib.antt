@@ -5,6 +5,7 @@ pub mod Ways
 pub mod Plans
 pub mod Questions
 pub mod Turns
+pub mod Advancing
 pub mod Needs
 pub mod Reached
 pub mod Built

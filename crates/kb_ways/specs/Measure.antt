@@ -8,7 +8,7 @@ use Rattle.kb_code.specs.declared.instruction.Instr.{Instr}
 use Rattle.kb_code.specs.declared.instruction.Instr.TheVariants as instrs
 use Rattle.kb_code.specs.declared.instruction.IntOp.{IntOp}
 use Rattle.kb_code.specs.declared.instruction.IntOp.TheVariants as ops
-use Rattle.kb_link.specs.World.{World}
+use Rattle.kb_classes.specs.World.{World}
 use Rattle.kb_semantics.specs.Config.{info_of}
 use Rattle.kb_semantics.specs.Inputs.{argument_types}
 use Rattle.kb_frames.specs.declared.state.Stage.{Stage}

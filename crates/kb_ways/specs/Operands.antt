@@ -4,7 +4,7 @@
 use Rattle.std.specs.Prelude.{List, Option, Some, None, option_map, option_and_then, slice_get}
 use Rattle.kb_names.specs.declared.types.JType.{JType}
 use Rattle.kb_terms.specs.declared.node.TermId.{TermId}
-use Rattle.kb_world.specs.Lookup.{only_where}
+use Rattle.kb_resolution.specs.Lookup.{only_where}
 use Rattle.kb_frames.specs.declared.value.SymValue.{SymValue}
 use Rattle.kb_frames.specs.declared.value.SymValue.TheVariants.{Int, Null, Obj, Literal, New, Loc}
 use Rattle.kb_ways.specs.Kept.{is_of_kind}

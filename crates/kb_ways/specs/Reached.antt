@@ -10,9 +10,9 @@ use Rattle.kb_class.specs.declared.members.MethodInfo.{MethodInfo}
 use Rattle.kb_code.specs.declared.instruction.Instr.{Instr}
 use Rattle.kb_code.specs.declared.listing.Handler.{Handler}
 use Rattle.kb_code.specs.Listing.{HasRisingKeys}
-use Rattle.kb_link.specs.World.{World}
+use Rattle.kb_classes.specs.World.{World}
 use Rattle.kb_semantics.specs.Config.{info_of, code_of, instruction_at}
-use Rattle.kb_world.specs.Faults.{is_left_out}
+use Rattle.kb_resolution.specs.LeftOut.{is_left_out}
 use Rattle.kb_picture.specs.declared.picture.Picture.{Picture}
 use Rattle.kb_picture.specs.WellTyped.{IsWellTyped, IsReceiverSeen}
 use Rattle.kb_frames.specs.declared.state.Stage.{Stage}

@@ -6,7 +6,7 @@ use Rattle.kb_class.specs.Naming.{Has}
 use Rattle.kb_heap.specs.declared.bounds.Bounds.{Bounds}
 use Rattle.kb_heap.specs.declared.heap.Heap.{Heap}
 use Rattle.kb_heap.specs.declared.heap.Input.{Input}
-use Rattle.kb_link.specs.World.{World}
+use Rattle.kb_classes.specs.World.{World}
 use Rattle.kb_semantics.specs.Config.{Setting, Config, Goes as StepGoes, Ends as StepEnds}
 use Rattle.kb_semantics.specs.Comparisons.{Comparison}
 use Rattle.kb_semantics.specs.Inputs.{IsTypeCorrect}
@@ -76,6 +76,10 @@ pub record Keeps (old new : State) : Type 0 where
   pub conditions : take (length old.when) new.when ≡ old.when
   -- whoever has the shape now had it before
   pub shapes : (input : Input) → HasShape new.picture input → HasShape old.picture input
+
+-- no condition is added
+abbrev pub AddsNoCondition : State → State → Type 0
+AddsNoCondition old new = new.when ≡ old.when
 
 -- An input can be made of the picture of a state: it keeps the types of its slots, and the receiver was read.
 pub record HasInputOfState (world : World) (state : State) : Type 0 where

@@ -5,7 +5,7 @@ use Rattle.std.specs.Prelude.{ℕ, List, length, Option, option_map, if◌then�
 use Rattle.std.specs.Option.{option_map_or}
 use Rattle.kb_heap.specs.declared.bounds.Bound.TheVariants.{Loops}
 use Rattle.kb_heap.specs.declared.bounds.Bounds.{Bounds}
-use Rattle.kb_link.specs.World.{World}
+use Rattle.kb_classes.specs.World.{World}
 use Rattle.kb_semantics.specs.Config.{has_room, place_in_code}
 use Rattle.kb_semantics.specs.Ways.{counted}
 use Rattle.kb_picture.specs.declared.path.Out.TheVariants as outs

@@ -9,7 +9,7 @@ use kb_frames::{SymState, is_reference, variable_kind};
 use kb_heap::Bound;
 use kb_names::JType;
 use kb_picture::{Choice, Length, Origin};
-use kb_world::World;
+use kb_semantics::World;
 
 /// Puts what was chosen for the question into the state.
 pub fn answer(

@@ -5,7 +5,7 @@ ghost use Rattle.kb_ways.specs.Built.{is_built_instruction, is_reference_instruc
 use kb_class::MethodId;
 use kb_code::Instr;
 use kb_frames::is_int_instruction;
-use kb_world::World;
+use kb_semantics::World;
 
 /// Whether the instruction is one that is built: one of ints, or one on references.
 pub fn is_built_instruction(world: &World, method: MethodId, instr: &Instr) -> bool

@@ -5,6 +5,7 @@
 //! alternatives a step has, and what an instruction does, the crates above say, each of a family of instructions.
 #![tactic(auto)]
 
+mod advanced;
 mod answers;
 mod asked;
 mod built;
@@ -19,6 +20,7 @@ mod terms;
 mod turn;
 mod ways;
 
+pub use advanced::{Advanced, only};
 pub use answers::{answer, passed_by};
 pub use asked::{ask, is_against};
 pub use built::is_built_instruction;

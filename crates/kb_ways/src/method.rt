@@ -9,7 +9,7 @@ use kb_class::MethodId;
 use kb_frames::SymState;
 use kb_lookups::max_locals;
 use kb_names::JType;
-use kb_world::World;
+use kb_semantics::World;
 
 /// Whether a local of that number lies below the method's limit, max_locals (JVMS 8 section 4.7.3).
 pub fn is_local(turn: &Turn<'_>, state: &SymState, local: u16) -> bool

@@ -7,7 +7,7 @@ use crate::NoMemory;
 use kb_frames::SymState;
 use kb_heap::Place;
 use kb_lookups::target_of;
-use kb_world::World;
+use kb_semantics::World;
 use std::alloc::Global;
 
 /// The method and the offset at which the run of a state stands.

@@ -1,7 +1,7 @@
 //! What surrounds one step.
 
 use kb_heap::Bounds;
-use kb_world::World;
+use kb_semantics::World;
 use std::alloc::Global;
 
 /// What stays the same while an instruction is carried out.

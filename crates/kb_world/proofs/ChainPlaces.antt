@@ -5,11 +5,11 @@ use Rattle.std.specs.Option.{option_map_or}
 use Rattle.std.proofs.lemmas.Bool.{eq-eqb, eqb-true}
 use Rattle.std.proofs.lemmas.Option.{same_Some, none-some, slice_get_within}
 use Rattle.kb_class.specs.Class.{Class}
-use Rattle.kb_link.specs.Subtypes.{AreChains, IsChain}
-use Rattle.kb_link.specs.World.{World, chain_of, parent_in}
-use Rattle.kb_universe.proofs.Lists.{same_test}
-use Rattle.kb_world.specs.Tables.{stands_at}
-use Rattle.kb_world.proofs.Marking.{any_there}
+use Rattle.kb_classes.specs.Subtypes.{AreChains, IsChain}
+use Rattle.kb_classes.specs.World.{World, chain_of, parent_in}
+use Rattle.kb_classes.proofs.Walks.{same_test}
+use Rattle.kb_resolution.specs.Tables.{stands_at}
+use Rattle.kb_universe.proofs.FoundMarks.{any_there}
 
 past_end : {A : Type 0} (xs : List A) (i : ℕ) → slice_get xs i ≡ None → length xs ≤ i
 past_end [] i at = omega arith

@@ -13,13 +13,13 @@ use Rattle.kb_class.specs.declared.members.MethodInfo.{MethodInfo}
 use Rattle.kb_class.specs.declared.ids.MethodId.{MethodId}
 use Rattle.kb_class.specs.declared.ids.ClassId.{ClassId}
 use Rattle.kb_class.specs.Platform.{object_name}
-use Rattle.kb_link.specs.World.{World, number_in, method_at, methods_in, chain_of}
+use Rattle.kb_classes.specs.World.{World, number_in, method_at, methods_in, chain_of}
 use Rattle.kb_link.specs.Members.{declared_method, is_method}
 use Rattle.kb_link.specs.Links.{IsLinked}
 use Rattle.kb_link.proofs.MemberNames.{place_there}
-use Rattle.kb_link.proofs.MethodNumbers.{stands_in}
-use Rattle.kb_link.proofs.Named.{number_inside}
-use Rattle.kb_world.specs.Lookup.{or_else, only_where, first_along, class_of, sought_at, declares, is_open_at, if_open, declares_open, first_sought, superinterfaces, resolved_in, method_sought, method_of_sought, resolved_method, selected_for, selected, special_start, special_for, special_sought, special_of_sought, selected_special}
+use Rattle.kb_classes.proofs.MethodNumbers.{stands_in}
+use Rattle.kb_classes.proofs.Named.{number_inside}
+use Rattle.kb_resolution.specs.Lookup.{or_else, only_where, first_along, class_of, sought_at, declares, is_open_at, if_open, declares_open, first_sought, superinterfaces, resolved_in, method_sought, method_of_sought, resolved_method, selected_for, selected, special_start, special_for, special_sought, special_of_sought, selected_special}
 use Rattle.kb_world.specs.Receivers.{selected_on_array}
 
 -- ---- what holds of each number that is told holds of the first

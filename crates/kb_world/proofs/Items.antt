@@ -5,15 +5,16 @@ use Rattle.std.proofs.lemmas.Option.{same_Some}
 use Rattle.std.proofs.lemmas.Grind.{fold-append}
 use Rattle.kb_code.specs.declared.instruction.Instr.{Instr}
 use Rattle.kb_code.specs.declared.instruction.Instr.TheVariants as instrs
-use Rattle.kb_link.specs.declared.linking.LinkRefusal.{LinkRefusal}
-use Rattle.kb_link.specs.World.{World}
-use Rattle.kb_link.proofs.Walks.{next_rest}
-use Rattle.kb_world.specs.declared.looked.Use.{Use}
-use Rattle.kb_world.specs.Calls.{use_of, use_fault, use_mentions, fault_of, mentions}
-use Rattle.kb_world.specs.Faults.{Fault}
-use Rattle.kb_world.specs.Found.{FoundMethods}
-use Rattle.kb_world.specs.Lookup.{or_else}
-use Rattle.kb_world.specs.Reach.{with_new, fault_in, mentions_in}
+use Rattle.kb_classes.specs.declared.refusal.LinkRefusal.{LinkRefusal}
+use Rattle.kb_classes.specs.World.{World}
+use Rattle.kb_classes.proofs.Walks.{next_rest}
+use Rattle.kb_universe.specs.declared.looked.Use.{Use}
+use Rattle.kb_universe.specs.Uses.{use_of}
+use Rattle.kb_world.specs.Calls.{use_fault, use_mentions, fault_of, mentions}
+use Rattle.kb_universe.specs.Faults.{Fault}
+use Rattle.kb_universe.specs.Found.{FoundMethods, with_new}
+use Rattle.kb_resolution.specs.Lookup.{or_else}
+use Rattle.kb_world.specs.Reach.{fault_in, mentions_in}
 use Rattle.kb_world.specs.Walks.{with_all, StopsAt, IsFaultIn, IsFaultAt, IsFaultOfUse}
 use Rattle.kb_world.proofs.Settling.{stops_as}
 

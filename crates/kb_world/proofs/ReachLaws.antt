@@ -7,18 +7,18 @@ use Rattle.kb_names.specs.declared.types.Target.{Target}
 use Rattle.kb_class.specs.declared.ids.MethodId.{MethodId}
 use Rattle.kb_class.specs.declared.members.MethodInfo.{MethodInfo}
 use Rattle.kb_class.specs.Class.{Class}
-use Rattle.kb_link.specs.declared.linking.LinkRefusal.{LinkRefusal}
-use Rattle.kb_link.specs.declared.linking.LinkRefusal.TheVariants as refusals
-use Rattle.kb_link.specs.World.{World}
+use Rattle.kb_classes.specs.declared.refusal.LinkRefusal.{LinkRefusal}
+use Rattle.kb_classes.specs.declared.refusal.LinkRefusal.TheVariants as refusals
+use Rattle.kb_classes.specs.World.{World}
 use Rattle.kb_link.specs.Links.{IsLinked}
 use Rattle.kb_link.specs.Targets.{Declares, IsTargetOf}
 use Rattle.kb_link.proofs.TargetLaws.{one_declared}
-use Rattle.kb_link.proofs.Places.{get_last}
-use Rattle.kb_link.proofs.MethodNumbers.{get_before}
-use Rattle.kb_world.specs.Faults.{Fault, NoField, Missing, Outside, Initialiser}
+use Rattle.kb_classes.proofs.Places.{get_last}
+use Rattle.kb_classes.proofs.MethodNumbers.{get_before}
+use Rattle.kb_universe.specs.Faults.{Fault, NoField, Missing, Outside, Initialiser}
 use Rattle.kb_world.specs.Reach.{found_by, method_fault, HasNoFault, IsFront, IsReached, IsFirstFault, OfTarget, OfMethod, IsFaultOf, HasNoFaults, IsAccepted, Refuses}
 use Rattle.kb_world.specs.Walks.{Tells, StopsAt}
-use Rattle.kb_link.specs.Split.{is_special}
+use Rattle.kb_classes.specs.Split.{is_special}
 
 -- ---- lists by their places
 

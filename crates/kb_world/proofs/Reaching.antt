@@ -4,12 +4,13 @@ use Rattle.std.specs.List.{AllByRecursion, list_any, flat_map, fold}
 use Rattle.std.proofs.lemmas.Grind.{flat_map-append, fold-append}
 use Rattle.std.proofs.lemmas.List.{append-nil, take_all, take-append-le, length-take-le, length-append}
 use Rattle.std.proofs.lemmas.Option.{same_Some, none-some, slice_get_within}
-use Rattle.kb_link.specs.declared.linking.LinkRefusal.{LinkRefusal}
-use Rattle.kb_link.specs.declared.linking.LinkRefusal.TheVariants as refusals
-use Rattle.kb_link.specs.World.{World}
-use Rattle.kb_link.proofs.Places.{get_pushed}
-use Rattle.kb_world.specs.Faults.{Fault}
-use Rattle.kb_world.specs.Reach.{with_new, found_by, method_mentions, method_fault, fault_of_target, HasNoFault, IsFront, IsFirstFault, OfTarget, OfMethod, HasNoFaults}
+use Rattle.kb_classes.specs.declared.refusal.LinkRefusal.{LinkRefusal}
+use Rattle.kb_classes.specs.declared.refusal.LinkRefusal.TheVariants as refusals
+use Rattle.kb_classes.specs.World.{World}
+use Rattle.kb_classes.proofs.Places.{get_pushed}
+use Rattle.kb_universe.specs.Faults.{Fault}
+use Rattle.kb_universe.specs.Found.{with_new}
+use Rattle.kb_world.specs.Reach.{found_by, method_mentions, method_fault, fault_of_target, HasNoFault, IsFront, IsFirstFault, OfTarget, OfMethod, HasNoFaults}
 use Rattle.kb_world.specs.Walks.{Tells, StopsAt, IsFaultOfMethod}
 
 -- ---- what is found stays in front

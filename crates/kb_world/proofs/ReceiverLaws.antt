@@ -5,13 +5,12 @@ use Rattle.std.proofs.lemmas.Grind.{fold-append}
 use Rattle.kb_names.specs.declared.types.ExactType.{ExactType}
 use Rattle.kb_names.specs.declared.types.ExactType.TheVariants as exact
 use Rattle.kb_names.specs.declared.types.JType.{JType}
-use Rattle.kb_link.specs.Universe.{IsUniverse}
-use Rattle.kb_link.specs.World.{World}
+use Rattle.kb_classes.specs.Universe.{IsUniverse}
+use Rattle.kb_classes.specs.World.{World}
 use Rattle.kb_universe.specs.Marks.{class_types, is_array_below}
 use Rattle.kb_universe.proofs.Members.{split_is}
 use Rattle.kb_world.specs.Calls.{receives, selected_on, called_on, if_code}
-use Rattle.kb_world.specs.Found.{FoundMethods}
-use Rattle.kb_world.specs.Reach.{with_new}
+use Rattle.kb_universe.specs.Found.{FoundMethods, with_new}
 use Rattle.kb_world.specs.Receivers.{called_among, selected_on_array}
 use Rattle.kb_world.specs.Walks.{with_all}
 use Rattle.kb_world.proofs.Settling.{new_twice}

@@ -11,13 +11,13 @@ use Rattle.kb_names.specs.declared.types.ExactType.TheVariants as exact
 use Rattle.kb_class.specs.Naming.{Has}
 use Rattle.kb_class.proofs.Lists.{has_first, has_later}
 use Rattle.kb_link.specs.Links.{IsLinked}
-use Rattle.kb_link.specs.Subtypes.{is_below, is_super}
-use Rattle.kb_link.specs.World.{World, number_in}
-use Rattle.kb_link.proofs.Named.{number_inside}
+use Rattle.kb_classes.specs.Subtypes.{is_below, is_super}
+use Rattle.kb_classes.specs.World.{World, number_in}
+use Rattle.kb_classes.proofs.Named.{number_inside}
 use Rattle.kb_universe.specs.Marks.{class_types}
 use Rattle.kb_universe.proofs.Members.{class_named}
 use Rattle.kb_world.specs.Calls.{receives, selected_on}
-use Rattle.kb_world.specs.Lookup.{class_number, selected}
+use Rattle.kb_resolution.specs.Lookup.{class_number, selected}
 use Rattle.kb_world.specs.Receivers.{called_among, called_below, receivers_in, receives_at}
 use Rattle.kb_world.proofs.ReceiverLaws.{among_is}
 

@@ -2,16 +2,15 @@
 use Rattle.std.proofs.Common.{◌≡◌, ◌↔◌, ℕ, ◌⊎◌, inl, inr, Bool, true, false, true≢false, ◌==◌, ◌||◌, List, [], ◌∷◌, ◌++◌, length, fold, Some, None, slice_get, refl, sym, ap, subst, ◌∙◌}
 use Rattle.std.specs.List.{list_any}
 use Rattle.kb_class.specs.Naming.{Has}
-use Rattle.kb_link.proofs.Places.{get_last}
-use Rattle.kb_link.specs.declared.linking.LinkRefusal.{LinkRefusal}
-use Rattle.kb_link.specs.World.{World}
+use Rattle.kb_classes.proofs.Places.{get_last}
+use Rattle.kb_classes.specs.declared.refusal.LinkRefusal.{LinkRefusal}
+use Rattle.kb_classes.specs.World.{World}
 use Rattle.kb_world.specs.Calls.{use_fault, use_mentions}
-use Rattle.kb_world.specs.Faults.{Fault}
-use Rattle.kb_world.specs.Found.{FoundMethods}
-use Rattle.kb_world.specs.Reach.{with_new}
+use Rattle.kb_universe.specs.Faults.{Fault}
+use Rattle.kb_universe.specs.Found.{FoundMethods, with_new}
 use Rattle.kb_world.specs.Walks.{with_all, StopsAt, AreFound, IsSettled, AreSettled}
-use Rattle.kb_world.specs.declared.looked.Asked.{Asked}
-use Rattle.kb_world.proofs.Marking.{any_there}
+use Rattle.kb_universe.specs.declared.looked.Asked.{Asked}
+use Rattle.kb_universe.proofs.FoundMarks.{any_there}
 use Rattle.kb_world.proofs.Reaching.{all_front}
 
 -- ---- one number

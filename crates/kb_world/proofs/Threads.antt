@@ -19,9 +19,9 @@ use Rattle.kb_code.specs.contracts.instruction.Instr as Instr
 use Rattle.kb_code.specs.contracts.instruction.IntCut as IntCut
 use Rattle.kb_code.specs.contracts.instruction.IntOp as IntOp
 use Rattle.kb_code.specs.contracts.listing.Listing as Listing
-use Rattle.kb_link.specs.contracts.classes.Classes as Classes
+use Rattle.kb_classes.specs.contracts.classes.Classes as Classes
 use Rattle.kb_link.specs.contracts.linked.Linked as Linked
-use Rattle.kb_link.specs.contracts.slots.FieldSlot as FieldSlot
+use Rattle.kb_classes.specs.contracts.slots.FieldSlot as FieldSlot
 use Rattle.kb_names.specs.contracts.name.Name as Name
 use Rattle.kb_names.specs.contracts.types.ExactType as ExactType
 use Rattle.kb_names.specs.contracts.types.JType as JType
@@ -33,8 +33,8 @@ use Rattle.kb_numbers.specs.contracts.types.Types as Types
 use Rattle.kb_order.specs.contracts.texts.TextSet as TextSet
 use Rattle.kb_texts.specs.contracts.texts.Texts as Texts
 use Rattle.kb_universe.specs.contracts.marks.Marks as Marks
-use Rattle.kb_world.specs.contracts.resolved.Resolved as Resolved
-use Rattle.kb_world.specs.contracts.selection.Selection as Selection
+use Rattle.kb_resolution.specs.contracts.resolved.Resolved as Resolved
+use Rattle.kb_resolution.specs.contracts.selection.Selection as Selection
 use Rattle.kb_world.specs.contracts.world.World as World
 
 name_send : IsSend Name.the_field.row

@@ -1,39 +1,33 @@
 -- What a call may call, and what is wrong with it (own rules over JVMS 8 sections 5.4.3, 5.4.6, 5.5 and 6.5).
-use Rattle.std.specs.Prelude.{ℕ, Bool, true, false, ◌&&◌, ◌||◌, not, is_some, List, [], ◌∷◌, map, filter, filter_map, Option, Some, None, slice_get, if◌then◌else◌}
+use Rattle.std.specs.Prelude.{ℕ, Bool, false, ◌&&◌, ◌||◌, not, is_some, List, [], ◌∷◌, map, filter, filter_map, Option, Some, None, slice_get, if◌then◌else◌}
 use Rattle.std.specs.List.{list_any}
 use Rattle.std.specs.Option.{option_and_then, option_map_or}
 use Rattle.kb_names.specs.declared.types.ExactType.{ExactType}
 use Rattle.kb_code.specs.declared.instruction.Instr.{Instr}
 use Rattle.kb_code.specs.declared.instruction.Instr.TheVariants as instrs
-use Rattle.kb_class.specs.declared.entries.ReferenceKind.{ReferenceKind}
-use Rattle.kb_class.specs.declared.entries.ReferenceKind.TheVariants as references
 use Rattle.kb_class.specs.declared.members.MemberKind.{MemberKind}
 use Rattle.kb_class.specs.declared.members.MemberKind.TheVariants as kinds
 use Rattle.kb_class.specs.declared.members.MethodInfo.{MethodInfo}
 use Rattle.kb_class.specs.Class.{Class, Sought}
 use Rattle.kb_class.specs.Members.{is_static}
-use Rattle.kb_link.specs.declared.linking.What.TheVariants as whats
-use Rattle.kb_link.specs.World.{World, method_at}
-use Rattle.kb_link.specs.Subtypes.{fits, type_of_exact}
-use Rattle.kb_link.specs.Universe.{is_given}
-use Rattle.kb_world.specs.declared.calls.Call.{Call}
-use Rattle.kb_world.specs.declared.calls.Call.TheVariants as calls
-use Rattle.kb_world.specs.declared.looked.Use.{Use}
-use Rattle.kb_world.specs.declared.looked.Use.TheVariants as uses
-use Rattle.kb_world.specs.Lookup.{or_else, only_where, class_of, sought_at, is_open, resolved_method, selected, selected_special}
-use Rattle.kb_world.specs.Faults.{Fault, Outside, has_left_out, entry_at, constant_fault, field_fault, new_fault, primitive_fault, array_fault, cast_fault, fault_of_initialiser}
+use Rattle.kb_classes.specs.declared.refusal.What.TheVariants as whats
+use Rattle.kb_classes.specs.World.{World, method_at}
+use Rattle.kb_classes.specs.Subtypes.{fits, type_of_exact}
+use Rattle.kb_classes.specs.Universe.{is_given}
+use Rattle.kb_universe.specs.declared.calls.Call.{Call}
+use Rattle.kb_universe.specs.declared.calls.Call.TheVariants as calls
+use Rattle.kb_universe.specs.declared.looked.Use.{Use}
+use Rattle.kb_universe.specs.declared.looked.Use.TheVariants as uses
+use Rattle.kb_classes.specs.Options.{or_else, only_where}
+pub use Rattle.kb_resolution.specs.Lookup.{sought_at, resolved_field, resolved_method, selected_special}
+use Rattle.kb_resolution.specs.Lookup.{class_of, is_open, selected}
+use Rattle.kb_universe.specs.Uses.{takes}
+pub use Rattle.kb_universe.specs.Faults.{component_of_code}
+use Rattle.kb_universe.specs.Faults.{Fault, Outside, entry_at, constant_fault, new_fault, primitive_fault, array_fault, cast_fault, fault_of_initialiser}
+use Rattle.kb_world.specs.FieldFaults.{field_fault}
+use Rattle.kb_resolution.specs.LeftOut.{has_left_out}
 
 -- ---- what a call may call
-
--- whether the entry is one that the call takes
-abbrev pub takes : Call → ReferenceKind → Bool
-takes calls.Virtual references.Method = true
-takes calls.Interface references.InterfaceMethod = true
-takes calls.Special references.Method = true
-takes calls.Special references.InterfaceMethod = true
-takes calls.Static references.Method = true
-takes calls.Static references.InterfaceMethod = true
-takes _ _ = false
 
 -- whether an object of the exact type may be the receiver of a method that is sought in the other type
 abbrev pub receives : World → ExactType → ExactType → Bool
@@ -125,18 +119,6 @@ fault_of world class (instrs.NewRefs entry) = array_fault world class entry
 fault_of world class (instrs.Cast entry) = cast_fault world class entry
 fault_of world class (instrs.InstanceOf entry) = cast_fault world class entry
 fault_of world class _ = None
-
--- what an instruction does with the entry that it names, where that is more than to read it
-abbrev pub use_of : Instr → Option (Use × ℕ)
-use_of (instrs.Virtual entry) = Some (uses.Call calls.Virtual, entry)
-use_of (instrs.Special entry) = Some (uses.Call calls.Special, entry)
-use_of (instrs.Static entry) = Some (uses.Call calls.Static, entry)
-use_of (instrs.Interface entry) = Some (uses.Call calls.Interface, entry)
-use_of (instrs.New entry) = Some (uses.Object, entry)
-use_of (instrs.NewRefs entry) = Some (uses.Array, entry)
-use_of (instrs.Cast entry) = Some (uses.Cast, entry)
-use_of (instrs.InstanceOf entry) = Some (uses.Cast, entry)
-use_of _ = None
 
 -- what is wrong with such a use of the entry, in code of the class
 abbrev pub use_fault : World → ℕ → Use → ℕ → Option Fault

@@ -1,7 +1,7 @@
 -- What a method reaches, and the first thing there that cannot be carried out (own rules over JVMS 8 sections 5.4.3, 5.5 and
 -- 6.5).
-use Rattle.std.specs.Prelude.{◌≡◌, ℕ, false, ◌==◌, IsSome, List, [], ◌∷◌, ◌++◌, fold, take, Option, Some, None, slice_get, if◌then◌else◌}
-use Rattle.std.specs.List.{AllByRecursion, list_any, flat_map}
+use Rattle.std.specs.Prelude.{◌≡◌, ℕ, false, IsSome, List, [], ◌∷◌, ◌++◌, fold, take, Option, Some, None, slice_get, if◌then◌else◌}
+use Rattle.std.specs.List.{AllByRecursion, flat_map}
 use Rattle.std.specs.Option.{option_map, option_and_then, option_map_or}
 use Rattle.kb_names.specs.declared.types.Target.{Target}
 use Rattle.kb_code.specs.declared.instruction.Instr.{Instr}
@@ -9,14 +9,18 @@ use Rattle.kb_class.specs.declared.ids.MethodId.{MethodId}
 use Rattle.kb_class.specs.declared.members.MethodCode.{MethodCode}
 use Rattle.kb_class.specs.declared.members.MethodInfo.{MethodInfo}
 use Rattle.kb_class.specs.Members.{is_static}
-use Rattle.kb_link.specs.declared.linking.LinkRefusal.{LinkRefusal}
-use Rattle.kb_link.specs.declared.linking.LinkRefusal.TheVariants as refusals
-use Rattle.kb_link.specs.declared.linking.What.TheVariants as whats
-use Rattle.kb_link.specs.World.{World, method_at}
-use Rattle.kb_link.specs.Split.{is_special}
-use Rattle.kb_link.specs.Targets.{Declares, IsTargetOf}
-use Rattle.kb_world.specs.Lookup.{or_else, only_where}
-use Rattle.kb_world.specs.Faults.{Fault, NoField, Missing, Outside, Initialiser, has_left_out, fault_of_initialiser}
+use Rattle.kb_classes.specs.declared.refusal.LinkRefusal.{LinkRefusal}
+use Rattle.kb_classes.specs.declared.refusal.LinkRefusal.TheVariants as refusals
+use Rattle.kb_classes.specs.declared.refusal.What.TheVariants as whats
+use Rattle.kb_classes.specs.World.{World, method_at}
+use Rattle.kb_classes.specs.Split.{is_special}
+pub use Rattle.kb_link.specs.Links.{IsLinked}
+pub use Rattle.kb_link.specs.Targets.{Declares}
+use Rattle.kb_link.specs.Targets.{IsTargetOf}
+use Rattle.kb_classes.specs.Options.{or_else, only_where}
+use Rattle.kb_universe.specs.Found.{with_new}
+use Rattle.kb_universe.specs.Faults.{Fault, NoField, Missing, Outside, Initialiser, fault_of_initialiser}
+use Rattle.kb_resolution.specs.LeftOut.{has_left_out}
 use Rattle.kb_world.specs.Calls.{fault_of, mentions}
 
 -- ---- methods
@@ -44,10 +48,6 @@ abbrev pub HasNoFault : World → ℕ → Type 0
 HasNoFault world number = method_fault world number ≡ None
 
 -- ---- the methods that are reached
-
--- the list with a number behind it, unless it has it
-abbrev pub with_new : List ℕ → ℕ → List ℕ
-with_new found number = if list_any (λ other. other == number) found then found else found ++ number ∷ []
 
 -- the target, and behind it each method once that these methods mention, in order of first mention
 abbrev pub found_by : World → ℕ → List ℕ → List ℕ

@@ -4,11 +4,11 @@ use Rattle.std.specs.Prelude.{ℕ, Bool, false, List, map, filter, filter_map, O
 use Rattle.std.specs.Option.{option_and_then}
 use Rattle.kb_names.specs.declared.types.ExactType.{ExactType}
 use Rattle.kb_class.specs.Platform.{object_name}
-use Rattle.kb_link.specs.World.{World, number_in}
-use Rattle.kb_link.specs.Subtypes.{is_super}
+use Rattle.kb_classes.specs.World.{World, number_in}
+use Rattle.kb_classes.specs.Subtypes.{is_super}
 use Rattle.kb_universe.specs.Marks.{class_types}
 use Rattle.kb_world.specs.Calls.{receives, selected_on}
-use Rattle.kb_world.specs.Lookup.{class_number, selected}
+use Rattle.kb_resolution.specs.Lookup.{class_number, selected}
 
 -- what is called in place of a method that is sought in the type, for each of these types that is a subtype
 abbrev pub called_among : World → ExactType → ℕ → List ExactType → List (Option ℕ)

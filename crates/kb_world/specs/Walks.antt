@@ -4,15 +4,15 @@ use Rattle.std.specs.List.{AllByRecursion, list_any}
 use Rattle.kb_class.specs.Naming.{Has}
 use Rattle.kb_code.specs.declared.instruction.Instr.{Instr}
 use Rattle.kb_names.specs.declared.types.Target.{Target}
-use Rattle.kb_link.specs.declared.linking.LinkRefusal.{LinkRefusal}
-use Rattle.kb_link.specs.declared.linking.LinkRefusal.TheVariants as refusals
-use Rattle.kb_link.specs.World.{World}
+use Rattle.kb_classes.specs.declared.refusal.LinkRefusal.{LinkRefusal}
+use Rattle.kb_classes.specs.declared.refusal.LinkRefusal.TheVariants as refusals
+use Rattle.kb_classes.specs.World.{World}
 use Rattle.kb_link.specs.Targets.{Declares}
 use Rattle.kb_world.specs.Calls.{fault_of, use_fault, use_mentions}
-use Rattle.kb_world.specs.Faults.{Fault, NoField, Missing, Outside, Initialiser}
-use Rattle.kb_world.specs.Found.{FoundMethods}
-use Rattle.kb_world.specs.declared.looked.Asked.{Asked}
-use Rattle.kb_world.specs.Reach.{with_new, method_fault, fault_in}
+use Rattle.kb_universe.specs.Faults.{Fault, NoField, Missing, Outside, Initialiser}
+use Rattle.kb_universe.specs.Found.{FoundMethods, with_new}
+use Rattle.kb_universe.specs.declared.looked.Asked.{Asked}
+use Rattle.kb_world.specs.Reach.{method_fault, fault_in}
 
 -- methods that are found, with others behind them
 abbrev pub with_all : FoundMethods → List ℕ → FoundMethods

@@ -2,39 +2,22 @@
 ghost use Rattle.std.specs.Prelude.{◌≡◌, ◌<◌, length, not, option_map, IfSome};
 ghost use Rattle.std.specs.List.{list_any};
 ghost use Rattle.kb_class.specs.Platform.{object_name};
-ghost use Rattle.kb_link.specs.World.{methods_in, number_in};
+ghost use Rattle.kb_classes.specs.World.{methods_in, number_in};
 ghost use Rattle.kb_link.specs.Links.{IsLinked};
-ghost use Rattle.kb_world.specs.Lookup.{class_number, class_of, resolved_method};
-ghost use Rattle.kb_world.specs.declared.calls.Call.TheVariants as calls;
-ghost use Rattle.kb_world.specs.Faults.{kind_left_out, plain_fault};
-ghost use Rattle.kb_world.specs.Tables.{kind_owner};
+ghost use Rattle.kb_resolution.specs.Lookup.{class_number, class_of, resolved_method};
+ghost use Rattle.kb_universe.specs.declared.calls.Call.TheVariants as calls;
+ghost use Rattle.kb_resolution.specs.LeftOut.{kind_left_out};
+ghost use Rattle.kb_universe.specs.Faults.{plain_fault};
+ghost use Rattle.kb_resolution.specs.Tables.{kind_owner};
 ghost use Rattle.kb_world.specs.Receivers.{called_below, receivers_in, receives_at, selected_on_array};
-ghost use Rattle.kb_world.specs.Calls.{takes, selected_on, called_on, called, is_callable_method, is_callable, is_for, fault_of_kind, fault_of_number, call_fault};
+ghost use Rattle.kb_world.specs.Calls.{selected_on, called_on, called, is_callable_method, is_callable, is_for, fault_of_kind, fault_of_number, call_fault};
 
-use crate::faults::Fault;
-use crate::methods::{OBJECT, is_open};
-use crate::resolved::Resolved;
 use crate::world::World;
-use kb_class::{ClassId, MemberKind, MethodId, MethodInfo, ReferenceKind, is_static};
+use kb_class::{ClassId, MemberKind, MethodId, MethodInfo, is_static};
 use kb_link::What;
 use kb_names::ExactType;
-
-/// How a method is called: by invokevirtual, invokeinterface, invokespecial or invokestatic.
-#[derive(Clone, Copy, PartialEq, Eq, Hash)]
-pub(crate) enum Call {
-    Virtual,
-    Interface,
-    Special,
-    Static,
-}
-
-/// A call of an entry of a class.
-#[derive(Clone, Copy)]
-pub(crate) struct EntryCall {
-    pub(crate) class: u32,
-    pub(crate) entry: u16,
-    pub(crate) call: Call,
-}
+use kb_resolution::{OBJECT, Resolved, is_open};
+use kb_universe::{Call, Fault, takes};
 
 impl World {
     /// What is wrong with a call of the entry, in code of the class.
@@ -279,18 +262,5 @@ impl World {
             return true;
         }
         self.file_of(method.class).is_none()
-    }
-}
-
-/// Whether the entry is one that the call takes.
-pub(crate) fn takes(call: Call, what: ReferenceKind) -> bool
-    ensures { result ≡ takes call what }
-{
-    match (call, what) {
-        (Call::Virtual, ReferenceKind::Method) => true,
-        (Call::Interface, ReferenceKind::InterfaceMethod) => true,
-        (Call::Special | Call::Static, ReferenceKind::Method) => true,
-        (Call::Special | Call::Static, ReferenceKind::InterfaceMethod) => true,
-        _ => false,
     }
 }

@@ -1,19 +1,21 @@
 //! What is wrong with a target and with instructions, and its refusal.
 ghost use Rattle.std.specs.Prelude.{◌≡◌, ◌⊎◌, ◌<◌, None, length, option_map, IfOk};
-ghost use Rattle.kb_link.specs.World.{methods_in};
+ghost use Rattle.kb_classes.specs.World.{methods_in};
 ghost use Rattle.kb_link.specs.Targets.{Declares};
-ghost use Rattle.kb_link.specs.declared.linking.LinkRefusal.TheVariants as refusals;
-ghost use Rattle.kb_world.specs.Faults.{plain_fault};
-ghost use Rattle.kb_world.specs.Calls.{fault_of, use_of};
+ghost use Rattle.kb_classes.specs.declared.refusal.LinkRefusal.TheVariants as refusals;
+ghost use Rattle.kb_universe.specs.Faults.{plain_fault};
+ghost use Rattle.kb_world.specs.Calls.{fault_of};
+ghost use Rattle.kb_universe.specs.Uses.{use_of};
 ghost use Rattle.kb_world.specs.Reach.{static_fault, fault_of_target};
 ghost use Rattle.kb_world.specs.Walks.{Tells};
 
-use crate::faults::{Fault, has_left_out, primitive_fault};
 use crate::world::World;
 use kb_class::{ClassId, MethodId, MethodInfo, is_static};
 use kb_code::Instr;
 use kb_link::{LinkRefusal, What};
-use kb_names::{Name, NoMemory, Target};
+use kb_names::{NoMemory, Target};
+use kb_resolution::has_left_out;
+use kb_universe::{Fault, initialised, missing, primitive_fault};
 use std::alloc::Global;
 
 impl World {
@@ -94,25 +96,5 @@ impl World {
         let name = info.name.copied(alloc)?;
         let kind = info.kind.copied(alloc)?;
         Ok(Target { class, name, kind })
-    }
-}
-
-// The refusal of a class that is not there.
-fn missing(alloc: Global, name: &Name) -> LinkRefusal
-    ensures { (result ≡ refusals.NoMemory) ⊎ (result ≡ refusals.Missing name.now) }
-{
-    match name.copied(alloc) {
-        Ok(name) => LinkRefusal::Missing(name),
-        Err(_) => LinkRefusal::NoMemory,
-    }
-}
-
-// The refusal of a class that code initialises.
-fn initialised(alloc: Global, name: &Name) -> LinkRefusal
-    ensures { (result ≡ refusals.NoMemory) ⊎ (result ≡ refusals.Initialiser name.now) }
-{
-    match name.copied(alloc) {
-        Ok(name) => LinkRefusal::Initialiser(name),
-        Err(_) => LinkRefusal::NoMemory,
     }
 }

@@ -1,36 +1,15 @@
 //! What is wrong with an instruction that is no call.
-ghost use Rattle.std.specs.Prelude.{◌≡◌, ◌<◌, Some, length, nat_le, option_map};
-ghost use Rattle.std.specs.List.{list_any};
-ghost use Rattle.std.specs.Option.{option_copied};
-ghost use Rattle.kb_names.specs.Types.{shape_of};
+ghost use Rattle.std.specs.Prelude.{◌≡◌, ◌<◌, Some, length, option_map};
 ghost use Rattle.kb_names.specs.declared.types.ExactType.TheVariants as exact;
-ghost use Rattle.kb_world.specs.Lookup.{resolved_field_class, resolved_field};
-ghost use Rattle.kb_world.specs.Faults.{plain_fault, is_left_out, has_left_out, class_in_type, missing_class, entry_at, constant_fault, fault_of_slot, field_fault, cast_fault, fault_of_initialiser, fault_of_object, fault_of_new, new_fault, is_deepest, array_fault, component_of_code, primitive_fault};
+ghost use Rattle.kb_resolution.specs.Lookup.{resolved_field_class, resolved_field};
+ghost use Rattle.kb_universe.specs.Faults.{plain_fault, missing_class, entry_at, constant_fault, cast_fault, fault_of_initialiser, fault_of_object, fault_of_new, new_fault, array_fault};
+ghost use Rattle.kb_world.specs.FieldFaults.{fault_of_slot, field_fault};
 
 use crate::world::World;
 use kb_class::{ClassId, ReferenceKind};
 use kb_link::{What, is_concrete};
-use kb_names::{ExactType, JType, MethodType, Name};
-use kb_universe::element_class;
-
-/// What is wrong with an instruction.
-#[derive(Clone, Copy)]
-pub(crate) enum Fault<'a> {
-    /// A field that is not there.
-    NoField,
-    /// A class that is not there.
-    Missing(&'a Name),
-    /// What cannot be carried out.
-    Outside(What),
-    /// A class that code initialises.
-    Initialiser(&'a Name),
-}
-
-/// T_BOOLEAN (JVMS 8 table 6.5.newarray-A).
-const BOOLEANS: u8 = 4;
-
-/// T_INT.
-const INTS: u8 = 10;
+use kb_names::{ExactType, Name};
+use kb_universe::{Fault, class_in_type, is_deepest};
 
 impl World {
     /// What is wrong with an ldc of the entry, in code of the class.
@@ -170,98 +149,4 @@ impl World {
         }
         None
     }
-}
-
-/// What is wrong with a newarray of that code.
-pub(crate) fn primitive_fault(code: u8) -> Option<Fault<'static>>
-    ensures { option_map plain_fault result ≡ primitive_fault code }
-{
-    match component_of_code(code) {
-        Some(_) => None,
-        None => Some(Fault::Outside(What::Kind)),
-    }
-}
-
-/// The component of an array that newarray makes for a code: boolean or int, None of any other code (JVMS 8 table
-/// 6.5.newarray-A).
-pub fn component_of_code(code: u8) -> Option<JType>
-    ensures { result ≡ component_of_code code }
-{
-    match code {
-        BOOLEANS => Some(JType::Bool),
-        INTS => Some(JType::Int),
-        _ => None,
-    }
-}
-
-/// Whether a parameter or the result is of a type that is left out: byte, char, short, long, float or double.
-pub(crate) fn has_left_out(kind: &MethodType) -> bool
-    ensures { result ≡ has_left_out kind.now }
-{
-    if is_any_left_out(kind.params.as_slice()) {
-        return true;
-    }
-    match &kind.result {
-        Some(of) => is_left_out(of),
-        None => false,
-    }
-}
-
-fn is_any_left_out(types: &[JType]) -> bool
-    ensures { result ≡ list_any is_left_out types.now }
-{
-    let mut rest = types;
-    while let [of, others @ ..] = rest {
-        if is_left_out(of) {
-            return true;
-        }
-        rest = others;
-    }
-    false
-}
-
-fn is_left_out(of: &JType) -> bool
-    ensures { result ≡ is_left_out of.now }
-{
-    match of {
-        JType::Byte | JType::Char | JType::Short => true,
-        JType::Long | JType::Float | JType::Double => true,
-        _ => false,
-    }
-}
-
-// The class that the type names, by itself or as an array's element.
-fn class_in_type(of: &ExactType) -> Option<&Name>
-    ensures { option_copied result ≡ class_in_type of.now }
-{
-    match of {
-        ExactType::Class(name) => Some(name),
-        ExactType::Array(component) => element_class(component),
-    }
-}
-
-// Whether no type has more dimensions.
-fn is_deepest(of: &ExactType) -> bool
-    ensures { result ≡ is_deepest of.now }
-{
-    match of {
-        ExactType::Class(_) => false,
-        ExactType::Array(component) => has_dimensions(component, 254),
-    }
-}
-
-// Whether the type has so many dimensions, or more.
-fn has_dimensions(of: &JType, count: u32) -> bool
-    ensures { result ≡ nat_le count (shape_of of.now).dims }
-{
-    let mut inner = of;
-    let mut left = count;
-    while left > 0 {
-        let JType::Array(component) = inner else {
-            return false;
-        };
-        inner = component.get();
-        left -= 1;
-    }
-    true
 }

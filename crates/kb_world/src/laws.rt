@@ -3,9 +3,9 @@
 ghost use Rattle.std.specs.Prelude.{◌≡◌, ℕ, List};
 ghost use Rattle.kb_names.specs.declared.types.Target.{Target};
 ghost use Rattle.kb_class.specs.declared.ids.MethodId.{MethodId};
-ghost use Rattle.kb_link.specs.declared.linking.LinkRefusal.{LinkRefusal};
-ghost use Rattle.kb_link.specs.declared.linking.LinkRefusal.TheVariants as refusals;
-ghost use Rattle.kb_link.specs.World.{World as PlainWorld};
+ghost use Rattle.kb_classes.specs.declared.refusal.LinkRefusal.{LinkRefusal};
+ghost use Rattle.kb_classes.specs.declared.refusal.LinkRefusal.TheVariants as refusals;
+ghost use Rattle.kb_classes.specs.World.{World as PlainWorld};
 ghost use Rattle.kb_link.specs.Links.{IsLinked};
 ghost use Rattle.kb_link.specs.Targets.{IsTargetOf};
 ghost use Rattle.kb_world.specs.Reach.{IsReached, IsAccepted, Refuses};

@@ -1,13 +1,13 @@
 //! Resolution and selection (JVMS 8 sections 5.4.3 and 5.4.6).
 ghost use Rattle.std.specs.Prelude.{◌≡◌, ◌<◌, length, option_map};
 ghost use Rattle.std.specs.Option.{option_copied};
-ghost use Rattle.kb_link.specs.World.{methods_in};
-ghost use Rattle.kb_world.specs.Lookup.{resolved_field, resolved_field_class, resolved_method, selected, selected_special};
+ghost use Rattle.kb_classes.specs.World.{methods_in};
+ghost use Rattle.kb_resolution.specs.Lookup.{resolved_field, resolved_field_class, resolved_method, selected, selected_special};
 
-use crate::fields::slot_in;
 use crate::world::World;
 use kb_class::{ClassId, MethodId};
 use kb_link::FieldSlot;
+use kb_resolution::slot_in;
 
 impl World {
     /// The class that declares the field which a Fieldref entry names: the class that the entry names, or the first of its

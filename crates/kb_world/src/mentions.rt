@@ -1,16 +1,15 @@
 //! The methods that calls mention.
 ghost use Rattle.std.specs.Prelude.{◌≡◌, ◌<◌, ◌∷◌, [], length, filter_map, option_map, OnOk, IfSome};
-ghost use Rattle.kb_link.specs.World.{methods_in};
+ghost use Rattle.kb_classes.specs.World.{methods_in};
 ghost use Rattle.kb_world.specs.Calls.{called, called_on, if_code, call_mentions};
-ghost use Rattle.kb_world.specs.Lookup.{class_number};
+ghost use Rattle.kb_resolution.specs.Lookup.{class_number};
 ghost use Rattle.kb_world.specs.Receivers.{called_below, receivers_in};
 ghost use Rattle.kb_world.specs.Walks.{with_all};
 
-use crate::calls::{Call, EntryCall, takes};
-use crate::found::Found;
 use crate::world::World;
 use kb_class::{ClassId, MethodId};
 use kb_names::{ExactType, NoMemory};
+use kb_universe::{Call, EntryCall, Found, takes};
 
 impl World {
     /// Adds the methods that a call of the entry may call, in code of the class.

@@ -1,17 +1,15 @@
 //! What a target reaches, and the first thing there that cannot be carried out.
-ghost use Rattle.std.specs.Prelude.{◌≡◌, ◌⊎◌, ◌<◌, length, None, OnOk, IfOk, IfErr};
-ghost use Rattle.kb_link.specs.World.{methods_in};
+ghost use Rattle.std.specs.Prelude.{◌≡◌, ◌<◌, length, None, OnOk, IfOk, IfErr};
+ghost use Rattle.kb_classes.specs.World.{methods_in};
 ghost use Rattle.kb_link.specs.Targets.{IsTargetOf};
-ghost use Rattle.kb_link.specs.declared.linking.LinkRefusal.TheVariants as refusals;
 ghost use Rattle.kb_world.specs.Reach.{HasNoFaults, IsFirstFault, IsAccepted, Refuses, fault_of_target};
 ghost use Rattle.kb_world.specs.Walks.{StopsAt};
 
-use crate::found::Found;
-use crate::looked::Looked;
 use crate::world::World;
 use kb_class::MethodId;
 use kb_link::LinkRefusal;
 use kb_names::Target;
+use kb_universe::{Found, Looked, no_method};
 use std::alloc::Global;
 
 impl World {
@@ -64,15 +62,5 @@ impl World {
             }
         }
         Ok(())
-    }
-}
-
-// The refusal of a target that names no method.
-fn no_method(alloc: Global, target: &Target) -> LinkRefusal
-    ensures { (result ≡ refusals.NoMemory) ⊎ (result ≡ refusals.NoMethod target.now) }
-{
-    match target.copied(alloc) {
-        Ok(target) => LinkRefusal::NoMethod(target),
-        Err(_) => LinkRefusal::NoMemory,
     }
 }

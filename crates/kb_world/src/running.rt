@@ -6,18 +6,18 @@ ghost use Rattle.kb_class.specs.declared.members.MethodInfo.{MethodInfo as Plain
 ghost use Rattle.kb_names.specs.declared.types.JType.TheVariants as types;
 ghost use Rattle.kb_class.specs.Class.{Class};
 ghost use Rattle.kb_class.specs.References.{sought_of};
-ghost use Rattle.kb_link.specs.Placing.{place_in};
-ghost use Rattle.kb_link.specs.Slots.{slots_of};
-ghost use Rattle.kb_link.specs.Subtypes.{fits, type_of_exact};
-ghost use Rattle.kb_link.specs.World.{chain_of, method_at, number_in, type_entry_of, int_entry_of};
+ghost use Rattle.kb_classes.specs.Placing.{place_in};
+ghost use Rattle.kb_classes.specs.Slots.{slots_of};
+ghost use Rattle.kb_classes.specs.Subtypes.{fits, type_of_exact};
+ghost use Rattle.kb_classes.specs.World.{chain_of, method_at, number_in, type_entry_of, int_entry_of};
 ghost use Rattle.kb_world.specs.Calls.{is_without_file, selected_on};
-ghost use Rattle.kb_world.specs.Lookup.{resolved_field, resolved_method, selected_special, sought_at};
-ghost use Rattle.kb_world.specs.Tables.{stands_at};
+ghost use Rattle.kb_resolution.specs.Lookup.{resolved_field, resolved_method, selected_special, sought_at};
 
 use crate::world::World;
 use kb_class::{ClassId, MethodCode, MethodId, MethodInfo, Reference};
 use kb_link::{FieldSlot, is_above_arrays};
 use kb_names::{ExactType, Name};
+use kb_resolution::stands_at;
 
 impl World {
     /// Whether there is a class of that number.
@@ -195,15 +195,5 @@ impl World {
             chain.len().saturating_sub(self.chain_at(high).len()),
             high,
         )
-    }
-}
-
-// Whether the number stands at the place.
-fn stands_at(chain: &[u32], place: usize, number: u32) -> bool
-    ensures { result ≡ stands_at chain.now place number }
-{
-    match chain.get(place) {
-        Some(above) => *above == number,
-        None => false,
     }
 }

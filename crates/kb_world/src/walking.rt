@@ -1,21 +1,19 @@
 //! The walk over the code of a method that is reached: the first fault, and what is mentioned. An entry is looked at once for each
 //! use of it.
 ghost use Rattle.std.specs.Prelude.{◌≡◌, ◌<◌, length, None, OnOk, IfErr};
-ghost use Rattle.kb_link.specs.World.{methods_in};
+ghost use Rattle.kb_classes.specs.World.{methods_in};
 ghost use Rattle.std.specs.Option.{option_map};
-ghost use Rattle.kb_world.specs.Calls.{use_of, use_fault, use_mentions, fault_of, mentions};
-ghost use Rattle.kb_world.specs.Faults.{plain_fault};
+ghost use Rattle.kb_universe.specs.Uses.{use_of};
+ghost use Rattle.kb_world.specs.Calls.{use_fault, use_mentions, fault_of, mentions};
+ghost use Rattle.kb_universe.specs.Faults.{plain_fault};
 ghost use Rattle.kb_world.specs.Reach.{HasNoFault, fault_in, mentions_in, method_mentions};
 ghost use Rattle.kb_world.specs.Walks.{with_all, StopsAt, IsFaultOfMethod, IsFaultIn, IsFaultAt, IsFaultOfUse, AreSettled};
 
-use crate::calls::{Call, EntryCall};
-use crate::faults::Fault;
-use crate::found::Found;
-use crate::looked::{Asked, Looked, Use};
 use crate::world::World;
 use kb_class::{ClassId, MethodId};
 use kb_code::Instr;
 use kb_link::LinkRefusal;
+use kb_universe::{Asked, EntryCall, Fault, Found, Looked, Use, use_of};
 use std::alloc::Global;
 
 impl World {
@@ -203,21 +201,5 @@ impl World {
             Use::Array => self.array_fault(class, entry),
             Use::Cast => self.cast_fault(class, entry),
         }
-    }
-}
-
-// What an instruction does with the entry that it names, where that is more than to read it.
-fn use_of(instr: &Instr) -> Option<(Use, u16)>
-    ensures { result ≡ use_of instr.now }
-{
-    match instr {
-        Instr::Virtual(entry) => Some((Use::Call(Call::Virtual), *entry)),
-        Instr::Special(entry) => Some((Use::Call(Call::Special), *entry)),
-        Instr::Static(entry) => Some((Use::Call(Call::Static), *entry)),
-        Instr::Interface(entry) => Some((Use::Call(Call::Interface), *entry)),
-        Instr::New(entry) => Some((Use::Object, *entry)),
-        Instr::NewRefs(entry) => Some((Use::Array, *entry)),
-        Instr::Cast(entry) | Instr::InstanceOf(entry) => Some((Use::Cast, *entry)),
-        _ => None,
     }
 }

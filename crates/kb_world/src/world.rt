@@ -4,26 +4,25 @@ ghost use Rattle.std.specs.List.{list_any};
 ghost use Rattle.std.specs.Option.{option_copied, option_and_then};
 ghost use Rattle.kb_class.specs.Class.{Class};
 ghost use Rattle.kb_class.specs.Naming.{Has};
-ghost use Rattle.kb_link.specs.World.{World as PlainWorld, chain_of, method_at, methods_in, number_in, type_entry_of, int_entry_of, literal_entry_of};
+ghost use Rattle.kb_classes.specs.World.{World as PlainWorld, chain_of, method_at, methods_in, number_in, type_entry_of, int_entry_of, literal_entry_of};
 ghost use Rattle.kb_link.specs.Links.{IsLinked};
-ghost use Rattle.kb_link.specs.Placing.{place_in};
-ghost use Rattle.kb_link.specs.Slots.{slots_of};
-ghost use Rattle.kb_link.specs.Subtypes.{fits};
+ghost use Rattle.kb_classes.specs.Placing.{place_in};
+ghost use Rattle.kb_classes.specs.Slots.{slots_of};
+ghost use Rattle.kb_classes.specs.Subtypes.{fits};
 ghost use Rattle.kb_link.specs.Targets.{IsTargetOf};
 ghost use Rattle.kb_universe.specs.Marks.{is_array_below, HaveMarks};
-ghost use Rattle.kb_world.specs.Lookup.{selected};
+ghost use Rattle.kb_resolution.specs.Lookup.{selected};
 ghost use Rattle.kb_world.specs.Receivers.{receivers_in};
-ghost use Rattle.kb_world.specs.Tables.{AreRows, AreSelected, IsResolved};
+ghost use Rattle.kb_resolution.specs.Tables.{AreRows, AreSelected, IsResolved};
 
-use crate::chains::{chain_at, slots_at};
-use crate::receivers::receivers_of;
-use crate::resolved::{Resolved, resolved_at};
-use crate::resolving::rows_of;
-use crate::selection::{Selection, selected_by, selection_of};
 use kb_class::{ClassId, LoadedClass, MethodId, MethodInfo};
 use kb_classfile::ClassFile;
 use kb_link::{FieldSlot, Linked};
 use kb_names::{ExactType, JType, Name, NoMemory, Row, Target};
+use kb_resolution::{
+    Resolved, Selection, chain_at, receivers_of, resolved_at, rows_of, selected_by, selection_of,
+    slots_at,
+};
 use kb_universe::Marks;
 use std::alloc::Global;
 use std::marker::Model;
@@ -72,7 +71,7 @@ fn tables_of(alloc: Global, linked: &Linked) -> Result<Tables, NoMemory>
 }
 
 impl Model for World {
-    ghost use Rattle.kb_link.specs.World.{World as PlainWorld};
+    ghost use Rattle.kb_classes.specs.World.{World as PlainWorld};
     ghost use Rattle.kb_link.specs.Links.{IsLinked};
 
     ghost Value = { PlainWorld };
@@ -81,7 +80,7 @@ impl Model for World {
 
     ghost use Rattle.kb_universe.specs.Marks.{HaveMarks};
     ghost use Rattle.kb_world.specs.Receivers.{receivers_in};
-    ghost use Rattle.kb_world.specs.Tables.{AreRows, AreSelected};
+    ghost use Rattle.kb_resolution.specs.Tables.{AreRows, AreSelected};
     ghost use Rattle.std.specs.Prelude.{◌≡◌};
 
     ghost invariant = { λ w. IsLinked w.linked × AreRows w.linked w.rows.items × AreSelected w.linked w.selection × HaveMarks w.linked w.marks × (w.receivers ≡ receivers_in w.linked) };

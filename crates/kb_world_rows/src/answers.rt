@@ -1,7 +1,7 @@
 //! What a world answers.
 
 ghost use Rattle.std.specs.Prelude.{◌<◌, length, IfSome};
-ghost use Rattle.kb_link.specs.World.{methods_in};
+ghost use Rattle.kb_classes.specs.World.{methods_in};
 
 use crate::texts::{
     add, add_number, add_origin, add_whether, read_entry, write_exact, write_kind, write_none,
@@ -190,7 +190,7 @@ fn reach_told(reached: &Result<MethodId, LinkRefusal>) -> Reach {
 }
 
 /// The class of that name.
-#[tactic(auto, using(kb_link::proofs::Named::number_inside))]
+#[tactic(auto, using(kb_classes::proofs::Named::number_inside))]
 fn class_of(alloc: Global, world: &World, name: &str) -> Option<ClassId>
     ensures { IfSome result (λ id. id.0 < length world.now.classes) }
 {

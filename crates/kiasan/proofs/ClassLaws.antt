@@ -20,8 +20,8 @@ use Rattle.kb_class.specs.declared.given.GivenClass.{GivenClass}
 use Rattle.kb_class.specs.Given.{AreListings, IsGivenBy, AreGivenBy, handlers_of}
 use Rattle.kb_class.proofs.GivenLaws.{given_pushed}
 use Rattle.kb_class.proofs.Listings.{listings_pushed}
-use Rattle.kb_link.specs.declared.linking.LinkRefusal.{LinkRefusal}
-use Rattle.kb_link.specs.declared.linking.LinkRefusal.TheVariants as links
+use Rattle.kb_classes.specs.declared.refusal.LinkRefusal.{LinkRefusal}
+use Rattle.kb_classes.specs.declared.refusal.LinkRefusal.TheVariants as links
 use Rattle.kb_link.specs.Links.{RefusesLink}
 use Rattle.kb_test_laws.specs.Texts.{IsOfBytes}
 use Rattle.kb_refusals.specs.declared.refusal.Refusal.{Refusal}

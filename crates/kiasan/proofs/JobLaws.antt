@@ -5,21 +5,21 @@ use Rattle.kb_class.specs.declared.ids.MethodId.{MethodId}
 use Rattle.kb_drive.specs.Compared.{ComparesAsRuns}
 use Rattle.kb_drive.specs.ReadFirst.{SeesWhatIsRead}
 use Rattle.kb_picture.specs.Carried.{CarriesInstance, EachPath, input_carried}
-use Rattle.kb_drive.specs.Covers.{Covers, StatesRuns}
+use Rattle.kb_drive.specs.Covers.{Covers, StatesRuns, FindsFirst}
 use Rattle.kb_frames.specs.State.{State, start_state}
 use Rattle.kb_heap.specs.declared.bounds.Bounds.{Bounds}
 use Rattle.kb_frames.specs.Cuts.{setting_of}
 use Rattle.kb_link.specs.Links.{IsLinked}
 use Rattle.kb_link.specs.Targets.{IsTargetOf}
-use Rattle.kb_link.specs.declared.linking.LinkRefusal.{LinkRefusal}
-use Rattle.kb_link.specs.declared.linking.LinkRefusal.TheVariants as links
-use Rattle.kb_link.specs.World.{World}
+use Rattle.kb_classes.specs.declared.refusal.LinkRefusal.{LinkRefusal}
+use Rattle.kb_classes.specs.declared.refusal.LinkRefusal.TheVariants as links
+use Rattle.kb_classes.specs.World.{World}
 use Rattle.kb_names.specs.declared.types.Target.{Target}
 use Rattle.kb_picture.specs.declared.choice.Init.{Init}
 use Rattle.kb_picture.specs.declared.choice.Init.TheVariants.{Lazy}
 use Rattle.kb_picture.specs.declared.path.Path.{Path}
-use Rattle.kb_report.specs.Ranges.{ReportFits}
-use Rattle.kb_report.specs.declared.report.Report.{Report}
+use Rattle.kb_report_text.specs.Ranges.{ReportFits}
+use Rattle.kb_report_text.specs.declared.report.Report.{Report}
 use Rattle.kb_report_laws.specs.OneText.{IsSound}
 use Rattle.kb_report_tests.specs.Tests.{IsCarried, StatesTexts, literals_in, tests_of}
 use Rattle.kb_report_tests.proofs.TestTexts.{TestHolds, tests_all}
@@ -110,10 +110,10 @@ in_range bounds are = omega (arith, are.array)
 -- what an exploration from that state lists
 pub listed_of : (world : World) (state : State) (init : Init) (id : MethodId) (bounds : Bounds) (paths budget asked : ℕ) (leaves : List Path) →
     state ≡ start_state init id → asked ≡ budget → Covers world state.method bounds paths asked leaves → EachPath (ComparesAsRuns world state.method bounds) leaves →
-    EachPath (SeesWhatIsRead world state.method bounds) leaves → AreListed world id bounds paths budget leaves
-listed_of world state init id bounds paths budget asked leaves e f covers compared seen =
+    EachPath (SeesWhatIsRead world state.method bounds) leaves → EachPath FindsFirst leaves → AreListed world id bounds paths budget leaves
+listed_of world state init id bounds paths budget asked leaves e f covers compared seen found =
     subst (λ (m : MethodId). AreListed world m bounds paths budget leaves) (is_start state init id e).1
-    (subst (λ (b : ℕ). AreListed world state.method bounds paths b leaves) f (record { covers = covers; compared = compared; seen = seen }))
+    (subst (λ (b : ℕ). AreListed world state.method bounds paths b leaves) f (record { covers = covers; compared = compared; seen = seen; found = found }))
 
 -- ---- the report's text is its own
 

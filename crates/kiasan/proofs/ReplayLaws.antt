@@ -1,8 +1,8 @@
 -- How a replay is refused, and how its verdicts are counted.
 use Rattle.std.proofs.Common.{◌≡◌, ℕ, ◌+◌, ◌≤◌, List, [], ◌∷◌, length, Err, refl, subst, arith, true, false}
-use Rattle.kb_link.specs.World.{World}
-use Rattle.kb_link.specs.declared.linking.LinkRefusal.{LinkRefusal}
-use Rattle.kb_link.specs.declared.linking.LinkRefusal.TheVariants as links
+use Rattle.kb_classes.specs.World.{World}
+use Rattle.kb_classes.specs.declared.refusal.LinkRefusal.{LinkRefusal}
+use Rattle.kb_classes.specs.declared.refusal.LinkRefusal.TheVariants as links
 use Rattle.kb_replay.specs.declared.checks.BadTest.{BadTest}
 use Rattle.kb_replay.specs.declared.checks.ReplayStop.{ReplayStop}
 use Rattle.kb_replay.specs.declared.checks.ReplayStop.TheVariants.{TestMethod, TestTypes, Reach, NoMemory}

@@ -3,7 +3,7 @@ use Rattle.std.proofs.Common.{◌≡◌, ℕ, ◌*◌, ◌<◌, ◌≤◌, List,
 use Rattle.std.specs.List.{AllByRecursion}
 use Rattle.kb_class.specs.declared.ids.MethodId.{MethodId}
 use Rattle.kb_link.specs.Links.{IsLinked}
-use Rattle.kb_link.specs.World.{World}
+use Rattle.kb_classes.specs.World.{World}
 use Rattle.kb_names.specs.Descriptors.{IsType}
 use Rattle.kb_names.specs.Targets.{IsTarget, SpellsTarget}
 use Rattle.kb_names.specs.declared.class_names.Spelling.TheVariants.{Escaped}

@@ -3,7 +3,7 @@ use Rattle.std.proofs.Common.{◌≡◌, ℕ, List, [], ◌∷◌, Option, refl,
 use Rattle.kb_refusals.specs.declared.refusal.Refusal.{Refusal}
 use Rattle.kb_class.specs.Given.{AreGivenBy}
 use Rattle.kb_link.specs.Links.{Links}
-use Rattle.kb_link.specs.World.{World}
+use Rattle.kb_classes.specs.World.{World}
 use Rattle.kb_words.specs.declared.orders.Order.{Order}
 use Rattle.kb_words.specs.declared.orders.Order.TheVariants.{Replay, Sample}
 use Rattle.kiasan.specs.declared.answer.Contents.{Contents}

@@ -15,9 +15,9 @@ use Rattle.kb_outside.specs.Outside.{Rose, Grows, GrowsByPart}
 use Rattle.kb_test.specs.declared.test_case.Test.{Test}
 use Rattle.kb_grammar.specs.Lines.{IsFirstBadLine}
 use Rattle.kb_test.specs.Tests.{SpellsTests, IsTestsText}
-use Rattle.kb_link.specs.declared.linking.LinkRefusal.{LinkRefusal}
+use Rattle.kb_classes.specs.declared.refusal.LinkRefusal.{LinkRefusal}
 use Rattle.kb_link.specs.Links.{Links, RefusesLink}
-use Rattle.kb_link.specs.World.{World}
+use Rattle.kb_classes.specs.World.{World}
 use Rattle.kiasan.specs.declared.answer.Contents.{Contents}
 use Rattle.kiasan.specs.declared.refusals.Answer.{Answer}
 use Rattle.kiasan.specs.declared.refusals.Fault.{Fault}
@@ -30,7 +30,7 @@ use Rattle.kiasan.specs.declared.refusals.Stop.TheVariants.{Refused}
 use Rattle.kiasan.specs.declared.refusals.Stop.TheVariants as stops
 use Rattle.kb_replay.specs.declared.replays.Replayed.{Replayed}
 use Rattle.kb_replay.specs.Replays.{AreReplayed, AreRunnable}
-use Rattle.kb_report.specs.declared.report.Report.{Report}
+use Rattle.kb_report_text.specs.declared.report.Report.{Report}
 use Rattle.kb_words.specs.declared.orders.Job.{Job}
 use Rattle.kb_words.specs.declared.orders.Order.{Order}
 use Rattle.kb_words.specs.declared.orders.Order.TheVariants.{Explore, Tests, Diagrams, Replay, Assemble, Sample}
@@ -43,8 +43,8 @@ use Rattle.kiasan.specs.Orders.{OrdersBuilt, OrdersUnbuilt, blocks_of, texts_of,
 use Rattle.kb_refusals.specs.Refusals.{refusal_status, refusal_line}
 use Rattle.kiasan.specs.Refusals.{Gives, class_refusal, link_refusal, word_refusal}
 use Rattle.kb_diagram.specs.Diagram.{diagrams_text}
-use Rattle.kb_report.specs.Ranges.{ReportFits}
-use Rattle.kb_report.specs.Report.{report_text}
+use Rattle.kb_report_text.specs.Ranges.{ReportFits}
+use Rattle.kb_report_text.specs.Report.{report_text}
 use Rattle.kb_report_laws.specs.OneText.{IsReport}
 use Rattle.kb_report_tests.specs.Tests.{literals_in, tests_of}
 use Rattle.kb_sample.specs.Sample.{sample_text}

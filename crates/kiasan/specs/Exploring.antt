@@ -5,14 +5,14 @@ use Rattle.kb_class.specs.declared.ids.MethodId.{MethodId}
 use Rattle.kb_drive.specs.Compared.{ComparesAsRuns}
 use Rattle.kb_drive.specs.Counts.{is_partial, is_undecided}
 use Rattle.kb_picture.specs.Carried.{EachPath}
-use Rattle.kb_drive.specs.Covers.{Covers, is_open}
+use Rattle.kb_drive.specs.Covers.{Covers, is_open, FindsFirst}
 use Rattle.kb_drive.specs.ReadFirst.{SeesWhatIsRead}
 use Rattle.kb_heap.specs.declared.bounds.Bounds.{Bounds}
 use Rattle.kb_link.specs.Targets.{IsTargetOf}
-use Rattle.kb_link.specs.World.{World}
+use Rattle.kb_classes.specs.World.{World}
 use Rattle.kb_picture.specs.declared.path.Path.{Path}
-use Rattle.kb_report.specs.Ranges.{ReportFits}
-use Rattle.kb_report.specs.declared.report.Report.{Report}
+use Rattle.kb_report_text.specs.Ranges.{ReportFits}
+use Rattle.kb_report_text.specs.declared.report.Report.{Report}
 use Rattle.kb_words.specs.declared.orders.Job.{Job}
 use Rattle.kb_world.specs.Reach.{IsAccepted}
 use Rattle.kb_refusals.specs.declared.status.Status.{Status}
@@ -22,11 +22,13 @@ use Rattle.kiasan.specs.Unbuilt.{IsBuiltFor}
 -- ---- reports
 
 -- What the list of an exploration within these bounds, up to so many paths, with a solver of that budget says of the method: its paths
--- cover each type-correct input, their conditions are comparisons that the runs make, and each slot that is seen is read.
+-- cover each type-correct input, their conditions are comparisons that the runs make, and each slot that is seen is read, and was
+-- found before that.
 pub record AreListed (world : World) (id : MethodId) (bounds : Bounds) (paths budget : ℕ) (leaves : List Path) : Type 0 where
   pub covers : Covers world id bounds paths budget leaves
   pub compared : EachPath (ComparesAsRuns world id bounds) leaves
   pub seen : EachPath (SeesWhatIsRead world id bounds) leaves
+  pub found : EachPath FindsFirst leaves
 
 -- the report's head is what was asked for
 pub record HasHead (job : Job) (report : Report) : Type 0 where

@@ -1,8 +1,8 @@
 -- What refuses a method that is to be explored or run.
 use Rattle.std.specs.Prelude.{◌≡◌, ◌⊎◌}
 use Rattle.kb_names.specs.declared.types.Target.{Target}
-use Rattle.kb_link.specs.declared.linking.LinkRefusal.{LinkRefusal}
-use Rattle.kb_link.specs.World.{World}
+use Rattle.kb_classes.specs.declared.refusal.LinkRefusal.{LinkRefusal}
+use Rattle.kb_classes.specs.World.{World}
 use Rattle.kb_world.specs.Reach.{Refuses}
 use Rattle.kb_refusals.specs.declared.refusal.Refusal.{Refusal}
 use Rattle.kb_refusals.specs.declared.refusal.Refusal.TheVariants.{Unbuilt}

@@ -2,7 +2,7 @@
 use Rattle.std.specs.Prelude.{ℕ, cond, Result, Ok, Err}
 use Rattle.kb_classfile.specs.declared.refusal.ClassRefusal.{ClassRefusal}
 use Rattle.kb_code.specs.declared.refusal.CodeRefusal.{CodeRefusal}
-use Rattle.kb_link.specs.declared.linking.LinkRefusal.{LinkRefusal}
+use Rattle.kb_classes.specs.declared.refusal.LinkRefusal.{LinkRefusal}
 use Rattle.kb_refusals.specs.declared.refusal.Refusal.{Refusal}
 use Rattle.kb_refusals.specs.declared.refusal.Refusal.TheVariants.{Words, Class, Code, Link, Text}
 use Rattle.kb_refusals.specs.declared.refusal.TextRefusal.TheVariants as texts

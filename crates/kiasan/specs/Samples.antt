@@ -2,7 +2,7 @@
 use Rattle.std.specs.Prelude.{◌≡◌, ℕ, List, [], ◌∷◌, ◌++◌, codes, length, Some}
 use Rattle.std.specs.Fmt.{decimal}
 use Rattle.kb_asm.specs.Class.{IsAssembled}
-use Rattle.kb_link.specs.World.{World}
+use Rattle.kb_classes.specs.World.{World}
 use Rattle.kb_names.specs.declared.types.JType.TheVariants.{Int}
 use Rattle.kb_names.specs.declared.types.Target.{Target}
 use Rattle.kb_picture.specs.declared.choice.Init.TheVariants.{Lazy}
@@ -10,8 +10,8 @@ use Rattle.kb_picture.specs.declared.path.Path.{Path}
 use Rattle.kb_replay.specs.declared.replays.Replayed.{Replayed}
 use Rattle.kb_replay.specs.declared.workers.Ran.{Ran}
 use Rattle.kb_replay.specs.Replays.{AreReplayed}
-use Rattle.kb_report.specs.declared.report.Report.{Report}
-use Rattle.kb_report.specs.Report.{kinds_text}
+use Rattle.kb_report_text.specs.declared.report.Report.{Report}
+use Rattle.kb_report_text.specs.Report.{kinds_text}
 use Rattle.kb_report_tests.specs.Tests.{tests_of}
 use Rattle.kb_sample.specs.Sample.{sample_text}
 use Rattle.kb_test.specs.declared.test_case.Test.{Test}

@@ -1,7 +1,7 @@
 -- The tests of a replay: what refuses them, and how the program ends.
 use Rattle.std.specs.Prelude.{◌≡◌, ℕ, ◌+◌, Bool, true, false, cond, nat_eq, List, [], ◌∷◌}
 use Rattle.kb_class.specs.declared.ids.MethodId.{MethodId}
-use Rattle.kb_link.specs.World.{World}
+use Rattle.kb_classes.specs.World.{World}
 use Rattle.kb_replay.specs.declared.checks.BadTest.{BadTest}
 use Rattle.kb_replay.specs.declared.checks.ReplayStop.{ReplayStop}
 use Rattle.kb_replay.specs.declared.checks.ReplayStop.TheVariants.{TestMethod, TestTypes, Reach, NoMemory}

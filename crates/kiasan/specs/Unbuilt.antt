@@ -3,7 +3,7 @@ use Rattle.std.specs.Prelude.{◌≡◌, true}
 use Rattle.kb_class.specs.declared.ids.MethodId.{MethodId}
 use Rattle.kb_names.specs.declared.types.Target.{Target}
 use Rattle.kb_link.specs.Targets.{IsTargetOf}
-use Rattle.kb_link.specs.World.{World}
+use Rattle.kb_classes.specs.World.{World}
 use Rattle.kb_drive.specs.HeapMethods.{is_heap_method}
 use Rattle.kb_world.specs.Reach.{IsAccepted}
 

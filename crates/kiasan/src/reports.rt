@@ -13,7 +13,7 @@ use kb_drive::{DriveStop, explore_from};
 use kb_frames::start;
 use kb_oracle::SolverOracle;
 use kb_picture::Path;
-use kb_report::{Report, tell_report};
+use kb_report_text::{Report, tell_report};
 use kb_rows::{Held, Row};
 use kb_words::Job;
 use kb_world::World;

@@ -12,7 +12,7 @@ use crate::reports::report_of;
 use kb_class::MethodId;
 use kb_drive::is_heap_method;
 use kb_refusals::Refusal;
-use kb_report::Report;
+use kb_report_text::Report;
 use kb_rows::Held;
 use kb_words::Job;
 use kb_world::World;

@@ -1,9 +1,9 @@
-//! The alternatives for a slot that is read for the first time, as a line of a text.
+//! The alternatives for a slot that is read for the first time, or for a location that is looked into, as a line of a text.
 
 use crate::texts::add;
-use kb_lazy::read_choices;
+use kb_lazy::{read_choices, resolve_choices};
 use kb_names::{ExactType, JType, Spelling, read_type, write_name, write_type};
-use kb_path_lines::{read_slot, split};
+use kb_path_lines::{read_location, read_slot, split};
 use kb_picture::{Choice, Init, Length, Origin, Picture};
 use kb_table::{RowResult, RowStop, append_number, kept, read_number};
 use kb_world::World;
@@ -18,7 +18,8 @@ struct Settings {
     array: u32,
 }
 
-/// Adds the alternatives for the slot that the words name, of the type that they name, as in `o0.1 LNode; k=1`.
+/// Adds the alternatives for the slot or the location that the words name, of the type that they name, as in `o0.1 LNode; k=1` or
+/// `l0 LNode;`.
 pub fn add_choices(
     alloc: Global,
     world: &World,
@@ -26,13 +27,53 @@ pub fn add_choices(
     words: &str,
     text: &mut Vec<u8>,
 ) -> RowResult<()> {
-    let (slot, words) = split(words);
+    let (place, words) = split(words);
     let (kind, words) = split(words);
-    let slot = read_slot(slot)?;
     let settings = read_settings(words)?;
     match read_type(alloc, kind.as_bytes()) {
-        Ok(kind) => add_choices_of(alloc, world, picture, slot, &kind, settings, text),
+        Ok(kind) => add_choices_at(alloc, world, picture, place, &kind, settings, text),
         Err(_) => Err(RowStop::Malformed),
+    }
+}
+
+fn add_choices_at(
+    alloc: Global,
+    world: &World,
+    picture: &Picture,
+    place: &str,
+    kind: &JType,
+    settings: Settings,
+    text: &mut Vec<u8>,
+) -> RowResult<()> {
+    match read_location(place) {
+        Some(number) => add_objects_of(alloc, world, picture, number, kind, settings, text),
+        None => {
+            let slot = read_slot(place)?;
+            add_choices_of(alloc, world, picture, slot, kind, settings, text)
+        }
+    }
+}
+
+fn add_objects_of(
+    alloc: Global,
+    world: &World,
+    picture: &Picture,
+    number: u32,
+    kind: &JType,
+    settings: Settings,
+    text: &mut Vec<u8>,
+) -> RowResult<()> {
+    match resolve_choices(
+        alloc,
+        world,
+        picture,
+        number,
+        kind,
+        settings.k,
+        settings.array,
+    ) {
+        Ok(choices) => add_each(alloc, choices.as_slice(), text),
+        Err(_) => Err(RowStop::NoMemory),
     }
 }
 

@@ -1,7 +1,7 @@
 //! Paths and inputs on tables of rows. A table has paths in the lines of a report and inputs in those of a test. For each input
 //! the program writes where the picture of the path lies in it, whether it is an instance of the path, how its run ends by the
 //! path, and whether the machine's run ends so. Of a path it also writes the alternatives for a slot that is read for the first
-//! time, and the input that the path carries.
+//! time or for a location that is looked into, and the input that the path carries.
 //!
 //! The gate runs it over the files of `data/` and compares what it writes with `stdout`, so that a row costs no proof. What is
 //! expected there was written by hand.

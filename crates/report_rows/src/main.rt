@@ -12,7 +12,7 @@ use kb_diagram::diagram_text;
 use kb_load::{InWorlds, WorldRows};
 use kb_outside::{FileShelf, OutSink, Sink};
 use kb_path_lines::split;
-use kb_report::{Report, report_text};
+use kb_report_text::{Report, report_text};
 use kb_rows::Held;
 use kb_table::{RowResult, RowStop, kept, send, write_rows};
 use kb_world::World;

@@ -4,7 +4,7 @@ use kb_heap::{Bounds, RunBounds};
 use kb_names::{Target, read_target};
 use kb_path_lines::{add_carried, add_to_path, path_of, split};
 use kb_picture::{Init, Path};
-use kb_report::Report;
+use kb_report_text::Report;
 use kb_rows::{Held, Row};
 use kb_table::{RowResult, RowStop, kept, read_number};
 use std::alloc::Global;

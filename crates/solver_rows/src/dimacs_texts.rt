@@ -11,7 +11,7 @@ use kb_table::{RowResult, RowStop, kept, read_number};
 use std::alloc::Global;
 
 /// A text that is written on one line: `\n`, `\t` and `\r` stand for bytes that end lines or are white, and `\e` for nothing.
-fn unescaped(alloc: Global, text: &str) -> RowResult<String> {
+pub(crate) fn unescaped(alloc: Global, text: &str) -> RowResult<String> {
     let mut pieces = text.split('\\');
     let mut whole = String::new(alloc);
     if let Some(first) = pieces.next() {

@@ -1,7 +1,8 @@
 //! Formulas and logs from their texts.
 
-use kb_chain::{Chain, Clause, Formula, Lit, Log, Row};
-use kb_table::{RowResult, RowStop, kept, read_int, read_numbers};
+use kb_chain::{Chain, Clause, Formula, Lit, Log};
+use kb_log_text::LineRefusal;
+use kb_table::{RowResult, RowStop, kept, read_int};
 use std::alloc::Global;
 
 /// The formula over so many variables with the clauses of a text: the numbers of their literals, and 0 behind each clause.
@@ -46,38 +47,28 @@ fn add_clause(alloc: Global, formula: &mut Formula, literals: &[Lit]) -> RowResu
 /// The log of a text: chains with `/` between two, each the number of its first clause and then a pivot and a number for each
 /// step; `-` is the log without entries.
 pub fn read_log(alloc: Global, text: &str) -> RowResult<Log> {
-    let mut entries = Row::new(alloc);
-    if text != "-" {
-        add_chains(alloc, &mut entries, text)?;
+    let lines = learn_lines(alloc, text)?;
+    match kb_log_text::read_log(alloc, lines.as_bytes()) {
+        Ok(log) => Ok(log),
+        Err(LineRefusal::BadLine(_)) => Err(RowStop::Malformed),
+        Err(LineRefusal::Stopped(_)) => Err(RowStop::NoMemory),
     }
-    Ok(Log { entries })
 }
 
-fn add_chains(alloc: Global, entries: &mut Row<Chain>, text: &str) -> RowResult<()> {
-    for chain in text.split('/') {
-        entries.push(read_chain(alloc, chain)?)?;
+fn learn_lines(alloc: Global, text: &str) -> RowResult<String> {
+    let mut lines = String::new(alloc);
+    if text != "-" {
+        for chain in text.split('/') {
+            writeln!(lines, "learn {chain}")?;
+        }
     }
-    Ok(())
+    Ok(lines)
 }
 
 pub fn read_chain(alloc: Global, text: &str) -> RowResult<Chain> {
-    let numbers = read_numbers(alloc, text, ' ')?;
-    let [start, others @ ..] = numbers.as_slice() else {
-        return Err(RowStop::Malformed);
-    };
-    let steps = steps_of(alloc, others)?;
-    Ok(Chain {
-        start: *start,
-        steps,
-    })
-}
-
-fn steps_of(alloc: Global, numbers: &[u32]) -> RowResult<Row<(u32, u32)>> {
-    let mut steps = Row::new(alloc);
-    for step in numbers.chunks_exact(2) {
-        if let [pivot, number] = step {
-            steps.push((*pivot, *number))?;
-        }
+    let line = format!(in alloc; "learn {text}")?;
+    match kept(kb_log_text::read_chain(alloc, line.as_bytes()))? {
+        Some(chain) => Ok(chain),
+        None => Err(RowStop::Malformed),
     }
-    Ok(steps)
 }

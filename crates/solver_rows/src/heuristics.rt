@@ -5,7 +5,7 @@ ghost use Rattle.kb_chain.specs.Propagation.{all_negated};
 
 use crate::formulas::read_chain;
 use kb_chain::Lit;
-use kb_eliminate::Trail;
+use kb_propagate::Trail;
 use kb_sat::{ActivityOrder, Crowding, Ranks, levels_of};
 use kb_table::{RowResult, RowStop, kept, read_int, read_number, read_numbers};
 use std::alloc::Global;

@@ -2,7 +2,7 @@
 
 use crate::dimacs_texts::{append_cnf, append_full, append_run, append_said, append_words};
 use crate::heuristics::{append_intervals, append_levels, append_order, append_ranks};
-use crate::log_lines::append_log_lines;
+use crate::log_lines::{append_log, append_log_lines};
 use crate::searches::{
     append_eliminate, append_fresh, append_needed, append_refutation, append_resolvent,
     append_search,
@@ -22,6 +22,7 @@ pub fn append_of_itself(
 ) -> RowResult<()> {
     match question {
         "lines" => append_log_lines(alloc, words, into),
+        "log" => append_log(alloc, words, into),
         "order" => append_order(alloc, words, into),
         "intervals" => append_intervals(words, into),
         "ranks" => append_ranks(alloc, words, into),

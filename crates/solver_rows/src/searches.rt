@@ -1,6 +1,6 @@
 //! Questions about formulas.
 ghost use Rattle.std.specs.Prelude.{◌≡◌, ◌<◌, []};
-ghost use Rattle.kb_eliminate.specs.Base.{IsReady, Stands};
+ghost use Rattle.kb_propagate.specs.Base.{IsReady, Stands};
 
 use crate::assignments::judged_bits;
 use crate::formulas::read_log;
@@ -8,7 +8,8 @@ use kb_chain::{
     Chain, Clause, Formula, Log, ResolveStop, Row, Store, Verdict, check_fresh, check_refutation,
     derive_needed, resolve,
 };
-use kb_eliminate::{Base, Eliminated, EliminationBounds, eliminate, restored};
+use kb_eliminate::{Eliminated, EliminationBounds, eliminate, restored};
+use kb_propagate::Base;
 use kb_questions::{
     Outcome, append_clause, append_place, judged_open, judged_refutation, read_budget,
 };

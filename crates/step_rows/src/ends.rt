@@ -5,7 +5,7 @@ ghost use Rattle.kb_ways.specs.Reached.{IsReached};
 use crate::rows::TableRow;
 use kb_frames::{SymState, paths_are_well_formed};
 use kb_picture::{Init, Leaf, Path};
-use kb_report::{Report, Row, report_text};
+use kb_report_text::{Report, Row, report_text};
 use kb_rows::Held;
 use kb_table::{RowResult, RowStop, append, kept};
 use kb_world::World;

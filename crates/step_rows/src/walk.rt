@@ -2,7 +2,7 @@
 
 ghost use Rattle.std.specs.Prelude.{◌≡◌, true, false, IfOk, OnOk, if◌then◌else◌};
 ghost use Rattle.kb_class.specs.Naming.{Has};
-ghost use Rattle.kb_link.specs.World.{World};
+ghost use Rattle.kb_classes.specs.World.{World};
 ghost use Rattle.kb_frames.specs.Next.{next_is_int};
 ghost use Rattle.kb_frames.specs.State.{State};
 ghost use Rattle.kb_stepint.specs.Choices.{choices_of as int_choices};
@@ -23,9 +23,10 @@ use kb_heap::Bounds;
 use kb_load::reached;
 use kb_picture::{Choice, Init};
 use kb_rows::Held;
-use kb_stepint::{choices_int, is_int_method, take_int};
-use kb_stepref::{choices_ref, take_ref};
+use kb_stepint::{advance_int, choices_int, is_int_method, take_int};
+use kb_stepref::{advance_ref, choices_ref, take_ref};
 use kb_table::{RowResult, RowStop, append};
+use kb_ways::Advanced;
 use kb_world::World;
 use std::alloc::Global;
 
@@ -37,9 +38,55 @@ pub fn append_walk(alloc: Global, world: &World, line: &str, into: &mut Vec<u8>)
     let row = read_row(alloc, line)?;
     append_line(line, into)?;
     match reached(alloc, world, &row.get().target) {
-        Some(method) => walk(alloc, world, method, row.get(), into),
+        Some(method) => walk_both(alloc, world, method, row.get(), into),
         None => append("cannot be explored\n", into),
     }
+}
+
+/// Appends the walk by lists and takes. Taking the only way on without a list comes to the same, or a line says that it does
+/// not.
+fn walk_both(
+    alloc: Global,
+    world: &World,
+    method: MethodId,
+    row: &TableRow,
+    into: &mut Vec<u8>,
+) -> RowResult<()> {
+    let listed = walked(alloc, world, method, row, Steps::Listed)?;
+    let advanced = walked(alloc, world, method, row, Steps::Advanced)?;
+    append_bytes(listed.as_slice(), into)?;
+    if listed.as_slice() == advanced.as_slice() {
+        return Ok(());
+    }
+    append("advances otherwise\n", into)?;
+    append_bytes(advanced.as_slice(), into)
+}
+
+fn append_bytes(bytes: &[u8], into: &mut Vec<u8>) -> RowResult<()> {
+    into.extend_from_slice(bytes)?;
+    Ok(())
+}
+
+/// How a walk steps on.
+#[derive(Clone, Copy)]
+enum Steps {
+    /// By the list of the alternatives, of which one is taken.
+    Listed,
+    /// By the only way on, where there is one, and else by the list.
+    Advanced,
+}
+
+/// The text of a walk.
+fn walked(
+    alloc: Global,
+    world: &World,
+    method: MethodId,
+    row: &TableRow,
+    steps: Steps,
+) -> RowResult<Vec<u8>> {
+    let mut text = Vec::new(alloc);
+    walk(alloc, world, method, row, steps, &mut text)?;
+    Ok(text)
 }
 
 fn append_line(line: &str, into: &mut Vec<u8>) -> RowResult<()> {
@@ -53,6 +100,7 @@ fn walk(
     world: &World,
     method: MethodId,
     row: &TableRow,
+    steps: Steps,
     into: &mut Vec<u8>,
 ) -> RowResult<()> {
     if !is_heap_method(world, method) {
@@ -62,7 +110,7 @@ fn walk(
         return append("has a bound on arrays that is too great\n", into);
     }
     let mut state = begin(alloc, world, method)?;
-    follow(alloc, world, row, state.get_mut(), into)?;
+    follow(alloc, world, row, steps, state.get_mut(), into)?;
     append_met(alloc, world, row, state.get(), into)
 }
 
@@ -99,6 +147,7 @@ fn follow(
     alloc: Global,
     world: &World,
     row: &TableRow,
+    steps: Steps,
     state: &mut SymState,
     into: &mut Vec<u8>,
 ) -> RowResult<()>
@@ -108,7 +157,7 @@ fn follow(
 {
     let mut taken = 0;
     for _ in 0..MOST {
-        if !step(alloc, world, row, &mut taken, state, into)? {
+        if !step(alloc, world, row, steps, &mut taken, state, into)? {
             return Ok(());
         }
     }
@@ -117,6 +166,27 @@ fn follow(
 
 /// One step. Whether another one comes behind it.
 fn step(
+    alloc: Global,
+    world: &World,
+    row: &TableRow,
+    steps: Steps,
+    taken: &mut usize,
+    state: &mut SymState,
+    into: &mut Vec<u8>,
+) -> RowResult<bool>
+    requires reached { IsHeapReached world.now state.old }
+    requires range { AreInRange row.now.bounds }
+    ensures reached { OnOk result (IsReached world.now state.new) }
+    ensures on { IfOk result (λ goes_on. goes_on ≡ true → IsHeapReached world.now state.new) }
+{
+    match steps {
+        Steps::Listed => step_by_list(alloc, world, row, taken, state, into),
+        Steps::Advanced => advance(alloc, world, row, taken, state, into),
+    }
+}
+
+/// One step by the list of its alternatives.
+fn step_by_list(
     alloc: Global,
     world: &World,
     row: &TableRow,
@@ -130,16 +200,122 @@ fn step(
     ensures on { IfOk result (λ goes_on. goes_on ≡ true → IsHeapReached world.now state.new) }
 {
     let choices = choices(alloc, world, state, &row.bounds)?;
-    append_choices(alloc, choices.as_slice(), into)?;
-    let Some(place) = place_of(choices.as_slice(), row.decisions.as_slice(), taken) else {
+    choose(alloc, world, row, taken, state, choices.as_slice(), into)
+}
+
+/// One step by one of these alternatives.
+fn choose(
+    alloc: Global,
+    world: &World,
+    row: &TableRow,
+    taken: &mut usize,
+    state: &mut SymState,
+    choices: &[Choice],
+    into: &mut Vec<u8>,
+) -> RowResult<bool>
+    requires reached { IsHeapReached world.now state.old }
+    requires range { AreInRange row.now.bounds }
+    requires offered { choices.now ≡ (if next_is_int world.now state.old then int_choices world.now state.old row.now.bounds else reference_choices world.now state.old row.now.bounds) }
+    ensures reached { OnOk result (IsReached world.now state.new) }
+    ensures on { IfOk result (λ goes_on. goes_on ≡ true → IsHeapReached world.now state.new) }
+{
+    append_choices(alloc, choices, into)?;
+    let Some(place) = place_of(choices, row.decisions.as_slice(), taken) else {
         append("\n", into)?;
         return Ok(false);
     };
-    let Some(choice) = choices.as_slice().get(place) else {
+    let Some(choice) = choices.get(place) else {
         append(" has no such alternative\n", into)?;
         return Ok(false);
     };
     take_and_tell(alloc, world, state, choice, &row.bounds, into)
+}
+
+/// One step by the only way on, where there is one, and else by an alternative.
+fn advance(
+    alloc: Global,
+    world: &World,
+    row: &TableRow,
+    taken: &mut usize,
+    state: &mut SymState,
+    into: &mut Vec<u8>,
+) -> RowResult<bool>
+    requires reached { IsHeapReached world.now state.old }
+    requires range { AreInRange row.now.bounds }
+    ensures reached { OnOk result (IsReached world.now state.new) }
+    ensures on { IfOk result (λ goes_on. goes_on ≡ true → IsHeapReached world.now state.new) }
+{
+    if state.next_is_int(world) {
+        return advance_on_ints(alloc, world, row, taken, state, into);
+    }
+    advance_on_references(alloc, world, row, taken, state, into)
+}
+
+fn advance_on_ints(
+    alloc: Global,
+    world: &World,
+    row: &TableRow,
+    taken: &mut usize,
+    state: &mut SymState,
+    into: &mut Vec<u8>,
+) -> RowResult<bool>
+    requires reached { IsHeapReached world.now state.old }
+    requires ints { next_is_int world.now state.old ≡ true }
+    requires range { AreInRange row.now.bounds }
+    ensures reached { OnOk result (IsReached world.now state.new) }
+    ensures on { IfOk result (λ goes_on. goes_on ≡ true → IsHeapReached world.now state.new) }
+{
+    heap_methods_stay();
+    let before = state.pool().nodes().len();
+    match advance_int(alloc, world, state, &row.bounds) {
+        Ok(Advanced::Chooses(choices)) => {
+            choose(alloc, world, row, taken, state, choices.as_slice(), into)
+        }
+        Ok(Advanced::Took(outcome)) => tell_only(alloc, world, state, &outcome, before, into),
+        Err(_) => Err(RowStop::NoMemory),
+    }
+}
+
+fn advance_on_references(
+    alloc: Global,
+    world: &World,
+    row: &TableRow,
+    taken: &mut usize,
+    state: &mut SymState,
+    into: &mut Vec<u8>,
+) -> RowResult<bool>
+    requires reached { IsHeapReached world.now state.old }
+    requires references { next_is_int world.now state.old ≡ false }
+    requires range { AreInRange row.now.bounds }
+    ensures reached { OnOk result (IsReached world.now state.new) }
+    ensures on { IfOk result (λ goes_on. goes_on ≡ true → IsHeapReached world.now state.new) }
+{
+    heap_methods_stay();
+    let before = state.pool().nodes().len();
+    match advance_ref(alloc, world, state, &row.bounds) {
+        Ok(Advanced::Chooses(choices)) => {
+            choose(alloc, world, row, taken, state, choices.as_slice(), into)
+        }
+        Ok(Advanced::Took(outcome)) => tell_only(alloc, world, state, &outcome, before, into),
+        Err(_) => Err(RowStop::NoMemory),
+    }
+}
+
+/// Tells what came of the only way on. Whether another step comes behind it.
+fn tell_only(
+    alloc: Global,
+    world: &World,
+    state: &SymState,
+    outcome: &Outcome,
+    before: usize,
+    into: &mut Vec<u8>,
+) -> RowResult<bool>
+    requires { GoesOnReached world.now state.now outcome.now }
+    ensures { IfOk result (λ goes_on. goes_on ≡ true → IsHeapReached world.now state.now) }
+{
+    append("only", into)?;
+    append_taken(alloc, world, state, outcome, before, into)?;
+    Ok(goes_on(outcome))
 }
 
 /// Takes an alternative of the next step, and tells what comes of it. Whether another step comes behind it.

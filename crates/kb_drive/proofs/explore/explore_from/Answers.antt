@@ -2,7 +2,7 @@
 use Rattle.std.proofs.Common.{◌≡◌, ◌<◌, [], length, Result, Ok, Err, IfOk, sym, ap, ◌∙◌, subst}
 use Rattle.std.proofs.lemmas.Option.{slice_get_within}
 use Rattle.kb_class.specs.declared.ids.MethodId.{MethodId}
-use Rattle.kb_link.specs.World.{methods_in}
+use Rattle.kb_classes.specs.World.{methods_in}
 use Rattle.kb_frames.specs.State.{State, start_state}
 use Rattle.kb_picture.specs.declared.choice.Init.{Init}
 use Rattle.kb_drive.specs.Reached.{IsHeapReached}
@@ -10,13 +10,13 @@ use Rattle.kb_drive.proofs.HeapMethodLaws.{heap_methods_begin}
 use Rattle.kb_drive.specs.declared.piece.Piece.{Piece}
 use Rattle.kb_drive.specs.Compared.{ComparesAsRuns}
 use Rattle.kb_picture.specs.Carried.{EachPath}
-use Rattle.kb_drive.specs.Covers.{Covers}
+use Rattle.kb_drive.specs.Covers.{Covers, FindsFirst}
 use Rattle.kb_drive.specs.Explorable.{IsExplorable}
 use Rattle.kb_drive.specs.Pieces.{IsPiece}
 use Rattle.kb_drive.specs.ReadFirst.{SeesWhatIsRead}
 use Rattle.kb_drive.specs.Whole.{CoversPiece}
 use Rattle.kb_drive.proofs.SettledLaws.{whole_is_piece, whole_piece}
-use Rattle.kb_drive.proofs.WholeLaws.{compares_whole, covers_whole, sees_whole}
+use Rattle.kb_drive.proofs.WholeLaws.{compares_whole, covers_whole, found_whole, sees_whole}
 use Rattle.kb_drive.proofs.explore.explore_from.Goals as goal
 
 -- what follows of a list follows where there is one
@@ -71,3 +71,12 @@ returns-clause-seen g c =
     subst (λ (piece : Piece). IfOk c.explore_piece.result (CoversPiece c.args.world.now c.args.bounds.now c.args.paths (g.O.Oracle.budget c.args.oracle.now) piece)) same c.explore_piece.ensures.covers in
     follows_of (CoversPiece c.args.world.now c.args.bounds.now c.args.paths (g.O.Oracle.budget c.args.oracle.now) (whole_piece c.args.start.init c.args.start.method)) (EachPath (SeesWhatIsRead c.args.world.now c.args.start.method c.args.bounds.now)) c.explore_piece.result
     (sees_whole c.args.world.now c.args.bounds.now c.args.paths (g.O.Oracle.budget c.args.oracle.now) c.args.start.init c.args.start.method) told
+
+pub returns-clause-found : goal.returns-clause-found
+returns-clause-found g c =
+    let same : c.whole-piece.result ≡ whole_piece c.args.start.init c.args.start.method =
+    c.whole-piece.ensures ∙ ap (λ (state : State). record { state = state; decisions = []; values = [] }) c.requires.start in
+    let told : IfOk c.explore_piece.result (CoversPiece c.args.world.now c.args.bounds.now c.args.paths (g.O.Oracle.budget c.args.oracle.now) (whole_piece c.args.start.init c.args.start.method)) =
+    subst (λ (piece : Piece). IfOk c.explore_piece.result (CoversPiece c.args.world.now c.args.bounds.now c.args.paths (g.O.Oracle.budget c.args.oracle.now) piece)) same c.explore_piece.ensures.covers in
+    follows_of (CoversPiece c.args.world.now c.args.bounds.now c.args.paths (g.O.Oracle.budget c.args.oracle.now) (whole_piece c.args.start.init c.args.start.method)) (EachPath FindsFirst) c.explore_piece.result
+    (found_whole c.args.world.now c.args.bounds.now c.args.paths (g.O.Oracle.budget c.args.oracle.now) c.args.start.init c.args.start.method) told

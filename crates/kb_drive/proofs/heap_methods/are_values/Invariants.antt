@@ -1,6 +1,6 @@
 use Rattle.std.proofs.Common.{◌≡◌, length}
 use Rattle.std.specs.List.{list_all}
-use Rattle.kb_link.specs.Slots.{has_slot_type}
+use Rattle.kb_classes.specs.Slots.{has_slot_type}
 use Rattle.kb_drive.proofs.heap_methods.are_values.Given as goal
 
 abbrev pub invariant-loop-rest : goal.invariant-loop-rest

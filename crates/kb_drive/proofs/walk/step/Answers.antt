@@ -1,6 +1,7 @@
 -- A step: nothing waits, or an alternative was taken.
 use Rattle.std.proofs.Common.{rules, ◌≡◌, Some, None, sym, subst}
-use Rattle.kb_drive.specs.Following.{CanFollow, IsTakenFrom, follows, walk_with}
+use Rattle.kb_drive.specs.declared.waiting.Taken.{Taken}
+use Rattle.kb_drive.specs.Following.{CanFollow, IsReachedBehind, IsTakenFrom, follows, walk_with}
 use Rattle.kb_drive.specs.Walks.{IsWalk, KeepsCount, KeepsSources}
 use Rattle.kb_drive.specs.declared.walk.Walk.{Walk}
 use Rattle.kb_ways.specs.Reached.{IsReached}
@@ -57,8 +58,11 @@ returns-in-Err-clause-unserved g c =
     oracle_unserved c.args.world.now c.args.walk.now.target c.args.bounds.now c.args.walk.now.waiting c.take_next.new.self c.in-Some.taken (was_taken c.args.world.now c.args.walk.now.target c.args.bounds.now c.args.walk.now.waiting c.take_next.new.self c.in-Some.taken c.requires.waits from)
     c.requires.explorable reached (g.O.Oracle.unfit c.args.oracle.now) c.in-Err.stop c.in-Err.ensures.unserved
 
-pub follow-requires : goal.follow-requires
-follow-requires g c =
+pub follow-requires-clause-range : goal.follow-requires-clause-range
+follow-requires-clause-range g c = c.requires.explorable.range
+
+pub follow-requires-clause-taken : goal.follow-requires-clause-taken
+follow-requires-clause-taken g c =
     let from : IsTakenFrom c.args.world.now c.args.bounds.now c.args.walk.now.waiting c.take_next.new.self (Some c.in-Some.taken) = search rules in
     let reached : IsReached c.args.world.now c.in-Some.taken.piece.state = search rules in
     subst (CanFollow c.args.world.now) (sym c.ask_within.ensures.same)
@@ -71,9 +75,9 @@ returns-clause-walk g c =
     let reached : IsReached c.args.world.now c.in-Some.taken.piece.state = search rules in
     let same : c.add.new.self ≡ walk_with (record c.args.walk.now { waiting = c.take_next.new.self }) (follows c.args.world.now c.args.bounds.now c.in-Some.taken c.in-Ok.known) =
     walk_behind c.args.world.now c.args.bounds.now (record c.args.walk.now { waiting = c.take_next.new.self }) c.in-Some.taken c.ask_within.new.taken c.in-Ok.known c.in_ok-next.next c.add.new.self
-    c.in_ok-add.ensures c.in_ok-next.ensures c.ask_within.ensures.same in
+    c.in_ok-add.ensures c.in_ok-next.ensures.follows c.ask_within.ensures.same in
     (step_holds c.args.world.now c.args.bounds.now (g.O.Oracle.budget c.args.oracle.now) c.args.walk.now c.take_next.new.self c.in-Some.taken c.in-Ok.known c.add.new.self c.requires from
-    c.in-Ok.ensures.known c.in-Ok.ensures.within reached same).walk
+    c.in-Ok.ensures.known c.in-Ok.ensures.within reached (subst (λ (t : Taken). IsReachedBehind c.args.world.now c.args.bounds.now t c.in-Ok.known) c.ask_within.ensures.same c.in_ok-next.ensures.way) same).walk
 
 pub returns-clause-refined : goal.returns-clause-refined
 returns-clause-refined g c =
@@ -81,9 +85,9 @@ returns-clause-refined g c =
     let reached : IsReached c.args.world.now c.in-Some.taken.piece.state = search rules in
     let same : c.add.new.self ≡ walk_with (record c.args.walk.now { waiting = c.take_next.new.self }) (follows c.args.world.now c.args.bounds.now c.in-Some.taken c.in-Ok.known) =
     walk_behind c.args.world.now c.args.bounds.now (record c.args.walk.now { waiting = c.take_next.new.self }) c.in-Some.taken c.ask_within.new.taken c.in-Ok.known c.in_ok-next.next c.add.new.self
-    c.in_ok-add.ensures c.in_ok-next.ensures c.ask_within.ensures.same in
+    c.in_ok-add.ensures c.in_ok-next.ensures.follows c.ask_within.ensures.same in
     (step_holds c.args.world.now c.args.bounds.now (g.O.Oracle.budget c.args.oracle.now) c.args.walk.now c.take_next.new.self c.in-Some.taken c.in-Ok.known c.add.new.self c.requires from
-    c.in-Ok.ensures.known c.in-Ok.ensures.within reached same).refined
+    c.in-Ok.ensures.known c.in-Ok.ensures.within reached (subst (λ (t : Taken). IsReachedBehind c.args.world.now c.args.bounds.now t c.in-Ok.known) c.ask_within.ensures.same c.in_ok-next.ensures.way) same).refined
 
 pub returns-clause-further : goal.returns-clause-further
 returns-clause-further g c =
@@ -91,9 +95,9 @@ returns-clause-further g c =
     let reached : IsReached c.args.world.now c.in-Some.taken.piece.state = search rules in
     let same : c.add.new.self ≡ walk_with (record c.args.walk.now { waiting = c.take_next.new.self }) (follows c.args.world.now c.args.bounds.now c.in-Some.taken c.in-Ok.known) =
     walk_behind c.args.world.now c.args.bounds.now (record c.args.walk.now { waiting = c.take_next.new.self }) c.in-Some.taken c.ask_within.new.taken c.in-Ok.known c.in_ok-next.next c.add.new.self
-    c.in_ok-add.ensures c.in_ok-next.ensures c.ask_within.ensures.same in
+    c.in_ok-add.ensures c.in_ok-next.ensures.follows c.ask_within.ensures.same in
     (step_holds c.args.world.now c.args.bounds.now (g.O.Oracle.budget c.args.oracle.now) c.args.walk.now c.take_next.new.self c.in-Some.taken c.in-Ok.known c.add.new.self c.requires from
-    c.in-Ok.ensures.known c.in-Ok.ensures.within reached same).further
+    c.in-Ok.ensures.known c.in-Ok.ensures.within reached (subst (λ (t : Taken). IsReachedBehind c.args.world.now c.args.bounds.now t c.in-Ok.known) c.ask_within.ensures.same c.in_ok-next.ensures.way) same).further
 
 pub returns-clause-given : goal.returns-clause-given
 returns-clause-given g c =
@@ -101,9 +105,9 @@ returns-clause-given g c =
     let reached : IsReached c.args.world.now c.in-Some.taken.piece.state = search rules in
     let same : c.add.new.self ≡ walk_with (record c.args.walk.now { waiting = c.take_next.new.self }) (follows c.args.world.now c.args.bounds.now c.in-Some.taken c.in-Ok.known) =
     walk_behind c.args.world.now c.args.bounds.now (record c.args.walk.now { waiting = c.take_next.new.self }) c.in-Some.taken c.ask_within.new.taken c.in-Ok.known c.in_ok-next.next c.add.new.self
-    c.in_ok-add.ensures c.in_ok-next.ensures c.ask_within.ensures.same in
+    c.in_ok-add.ensures c.in_ok-next.ensures.follows c.ask_within.ensures.same in
     subst (λ (new : Walk). KeepsSources c.args.world.now c.args.walk.now new (g.O.Oracle.given c.args.oracle.now) (g.O.Oracle.given c.ask_within.new.oracle)) (sym same)
-    (step_sources c.args.world.now c.args.bounds.now c.args.walk.now c.take_next.new.self c.in-Some.taken c.in-Ok.known (was_taken c.args.world.now c.args.walk.now.target c.args.bounds.now c.args.walk.now.waiting c.take_next.new.self c.in-Some.taken c.requires.waits from) c.requires.explorable reached
+    (step_sources c.args.world.now c.args.bounds.now c.args.walk.now c.take_next.new.self c.in-Some.taken c.in-Ok.known (was_taken c.args.world.now c.args.walk.now.target c.args.bounds.now c.args.walk.now.waiting c.take_next.new.self c.in-Some.taken c.requires.waits from) c.requires.explorable reached (subst (λ (t : Taken). IsReachedBehind c.args.world.now c.args.bounds.now t c.in-Ok.known) c.ask_within.ensures.same c.in_ok-next.ensures.way)
     (g.O.Oracle.given c.args.oracle.now) (g.O.Oracle.given c.ask_within.new.oracle) c.in-Ok.ensures.given)
 
 pub returns-clause-unsure : goal.returns-clause-unsure
@@ -112,7 +116,7 @@ returns-clause-unsure g c =
     let reached : IsReached c.args.world.now c.in-Some.taken.piece.state = search rules in
     let same : c.add.new.self ≡ walk_with (record c.args.walk.now { waiting = c.take_next.new.self }) (follows c.args.world.now c.args.bounds.now c.in-Some.taken c.in-Ok.known) =
     walk_behind c.args.world.now c.args.bounds.now (record c.args.walk.now { waiting = c.take_next.new.self }) c.in-Some.taken c.ask_within.new.taken c.in-Ok.known c.in_ok-next.next c.add.new.self
-    c.in_ok-add.ensures c.in_ok-next.ensures c.ask_within.ensures.same in
+    c.in_ok-add.ensures c.in_ok-next.ensures.follows c.ask_within.ensures.same in
     subst (λ (new : Walk). KeepsCount c.args.walk.now new (g.O.Oracle.unsure c.args.oracle.now) (g.O.Oracle.unsure c.ask_within.new.oracle)) (sym same)
     (keeps_count c.args.world.now c.args.bounds.now c.args.walk.now c.take_next.new.self c.in-Some.taken c.in-Ok.known (g.O.Oracle.unsure c.args.oracle.now) (g.O.Oracle.unsure c.ask_within.new.oracle)
     c.in-Ok.ensures.undecided c.ask_within.ensures.later_unsure)

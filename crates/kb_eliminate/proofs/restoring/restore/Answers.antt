@@ -1,5 +1,5 @@
 use Rattle.kb_chain.specs.Clause.{assignment_of}
-use Rattle.kb_eliminate.proofs.BaseLaws.{clause_true-from}
+use Rattle.kb_propagate.proofs.BaseLaws.{clause_true-from}
 use Rattle.kb_eliminate.proofs.restoring.restore.Goals as goal
 
 pub returns : goal.returns

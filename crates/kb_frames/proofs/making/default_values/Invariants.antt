@@ -1,5 +1,5 @@
 use Rattle.std.proofs.Common.{◌≡◌, map, take}
-use Rattle.kb_link.specs.declared.slots.FieldSlot.{FieldSlot}
+use Rattle.kb_classes.specs.declared.slots.FieldSlot.{FieldSlot}
 use Rattle.kb_frames.specs.Making.{default_sym}
 use Rattle.kb_frames.proofs.making.default_values.Given as goal
 

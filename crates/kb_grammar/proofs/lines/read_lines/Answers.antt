@@ -1,4 +1,4 @@
-use Rattle.std.proofs.Common.{◌≡◌, ◌∷◌, List, ℕ, [], length, ◌==◌, Bool, true, false, refl, sym, ◌∙◌, ap, arith, ne_eqb}
+use Rattle.kb_grammar.proofs.WordLaws.{some_left, none_left}
 use Rattle.kb_grammar.proofs.FormatLaws.{next_read, bad_line, bad_end, whole_read, only_read}
 use Rattle.kb_grammar.proofs.lines.read_lines.Goals as goal
 
@@ -16,16 +16,6 @@ loop-line-preserved g c =
     next_read (g.F.LineFormat.stands_behind c.args.format.now c.loop-line.front) (g.F.LineFormat.stands_behind c.args.format.now c.in-Ok-Some.next)
     c.args.text.now c.loop-line.rest.now c.in-Some.line.now c.in-Some.others.now c.loop-line.number
     c.loop-line.invariant c.in-Some.ensures.0 c.in-Some.ensures.1 (rw c.in-Ok-Some.field-0-is at c.in-Ok-Some.ensures)
-
-some_left : (rest : List ℕ) (empty : Bool) → empty ≡ (length rest == 0) → empty ≡ false → rest ≡ [] → ⊥
-some_left rest empty is not e = let here : (length rest == 0) ≡ true = ap (λ (l : List ℕ). length l == 0) e in cc
-
-none_left : (rest : List ℕ) (empty : Bool) → empty ≡ (length rest == 0) → empty ≡ true → rest ≡ []
-none_left [] empty is so = refl
-none_left (byte ∷ bytes) empty is so = absurd (not_so (ne_eqb (length (byte ∷ bytes)) 0 (omega arith)) (sym is ∙ so))
-  where
-    not_so : {b : Bool} → b ≡ false → b ≡ true → ⊥
-    not_so e f = cc
 
 pub returns-then-not-is_empty-clause-bad : goal.returns-then-not-is_empty-clause-bad
 returns-then-not-is_empty-clause-bad g c =

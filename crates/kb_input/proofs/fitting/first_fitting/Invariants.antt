@@ -1,5 +1,5 @@
 use Rattle.std.proofs.Common.{◌≡◌, find, length}
-use Rattle.kb_link.specs.Subtypes.{fits}
+use Rattle.kb_classes.specs.Subtypes.{fits}
 use Rattle.kb_input.specs.Emitted.{first_fitting}
 use Rattle.kb_input.proofs.fitting.first_fitting.Given as goal
 

@@ -1,6 +1,6 @@
 use Rattle.std.proofs.Common.{◌≡◌, length}
 use Rattle.std.specs.List.{list_any}
-use Rattle.kb_link.specs.Subtypes.{fits}
+use Rattle.kb_classes.specs.Subtypes.{fits}
 use Rattle.kb_lazy.specs.Choices.{has_fitting}
 use Rattle.kb_lazy.proofs.fresh.has_fitting.Given as goal
 

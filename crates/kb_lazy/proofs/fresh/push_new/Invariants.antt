@@ -1,6 +1,6 @@
 use Rattle.std.proofs.Common.{◌≡◌, ◌++◌, filter, length}
 use Rattle.std.specs.List.{flat_map}
-use Rattle.kb_link.specs.Subtypes.{fits}
+use Rattle.kb_classes.specs.Subtypes.{fits}
 use Rattle.kb_lazy.specs.Choices.{all_new, new_objects}
 use Rattle.kb_lazy.proofs.fresh.push_new.Given as goal
 

@@ -1,7 +1,7 @@
 use Rattle.std.proofs.Common.{◌≡◌, ◌∷◌, ◌+◌, [], List, ℕ, Option, Some, suc, length, sym, ap, ◌∙◌, subst, arith}
 use Rattle.std.proofs.lemmas.List.{length-append}
 use Rattle.kb_order.specs.Order.{HasNoCircle}
-use Rattle.kb_link.specs.Subtypes.{direct_supers}
+use Rattle.kb_classes.specs.Subtypes.{direct_supers}
 use Rattle.kb_link.specs.ChainWalks.{parent_at, walk, AreWalks}
 use Rattle.kb_link.proofs.Above.{walks_pushed, walks_are_chains, direct_many}
 use Rattle.kb_link.proofs.chains.all_chains.Goals as goal

@@ -1,5 +1,5 @@
 use Rattle.std.proofs.Common.{◌≡◌, map, take}
-use Rattle.kb_link.specs.World.{parent_in}
+use Rattle.kb_classes.specs.World.{parent_in}
 use Rattle.kb_link.proofs.chains.parents_of.Given as goal
 
 abbrev pub invariant-loop-class : goal.invariant-loop-class

@@ -1,6 +1,6 @@
 use Rattle.std.proofs.Common.{◌≡◌, ◌<◌, ℕ, subst, sym, ◌∙◌}
 use Rattle.kb_order.specs.Order.{IsComplete, HasNoCircle, StandsOnCircle}
-use Rattle.kb_link.specs.Subtypes.{direct_supers}
+use Rattle.kb_classes.specs.Subtypes.{direct_supers}
 use Rattle.kb_link.proofs.Above.{supers_complete}
 use Rattle.kb_link.proofs.Circling.{circle_inside, circle_refuses}
 use Rattle.kb_link.proofs.circles.check_circles.Goals as goal

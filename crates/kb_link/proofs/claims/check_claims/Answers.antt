@@ -1,10 +1,10 @@
 use Rattle.std.proofs.Common.{List, refl, subst}
 use Rattle.std.specs.List.{flat_map}
 use Rattle.kb_class.specs.Class.{Class}
-use Rattle.kb_link.specs.Subtypes.{claims_of}
-use Rattle.kb_link.specs.Rules.{IsFirst, IsBad}
-use Rattle.kb_link.specs.Links.{RefusesClasses}
-use Rattle.kb_link.proofs.Firsts.{first_here, handed_on}
+use Rattle.kb_classes.specs.Subtypes.{claims_of}
+use Rattle.kb_classes.specs.Rules.{IsFirst, IsBad}
+use Rattle.kb_classes.specs.Refusals.{RefusesClasses}
+use Rattle.kb_classes.proofs.Firsts.{first_here, handed_on}
 use Rattle.kb_link.proofs.Claiming.{bad_refuses}
 use Rattle.kb_link.proofs.claims.check_claims.Goals as goal
 

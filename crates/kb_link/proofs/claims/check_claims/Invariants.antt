@@ -1,7 +1,7 @@
 use Rattle.std.proofs.Common.{take}
 use Rattle.std.specs.List.{flat_map}
-use Rattle.kb_link.specs.Subtypes.{claims_of}
-use Rattle.kb_link.specs.Rules.{IsNoneSuch, IsBad}
+use Rattle.kb_classes.specs.Subtypes.{claims_of}
+use Rattle.kb_classes.specs.Rules.{IsNoneSuch, IsBad}
 use Rattle.kb_link.proofs.claims.check_claims.Given as goal
 
 abbrev pub invariant-loop-class : goal.invariant-loop-class

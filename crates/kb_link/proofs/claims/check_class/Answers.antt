@@ -1,7 +1,7 @@
 use Rattle.std.proofs.Common.{map}
-use Rattle.kb_link.specs.Subtypes.{parent_claim, interface_claim, claims_of}
-use Rattle.kb_link.specs.Rules.{IsBad}
-use Rattle.kb_link.proofs.Firsts.{first_behind, err_as}
+use Rattle.kb_classes.specs.Subtypes.{parent_claim, interface_claim, claims_of}
+use Rattle.kb_classes.specs.Rules.{IsBad}
+use Rattle.kb_classes.proofs.Firsts.{first_behind, err_as}
 use Rattle.kb_link.proofs.Claiming.{stops_bad}
 use Rattle.kb_link.proofs.claims.check_class.Goals as goal
 

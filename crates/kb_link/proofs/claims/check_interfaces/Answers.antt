@@ -1,10 +1,11 @@
 use Rattle.std.proofs.Common.{◌≡◌, ◌++◌, ◌∷◌, ◌+◌, [], List, map, take, drop, sym, ap, ◌∙◌, subst}
 use Rattle.std.proofs.lemmas.List.{map-append}
-use Rattle.kb_link.specs.Subtypes.{Claim, interface_claim}
-use Rattle.kb_link.specs.Rules.{IsFirst, IsNoneSuch, IsBad}
-use Rattle.kb_link.specs.Tables.{StopsAtBad}
-use Rattle.kb_link.proofs.Firsts.{handed_on, first_before, first_behind, none_joined}
-use Rattle.kb_link.proofs.Claiming.{taken_next, cut_at, stops_bad}
+use Rattle.kb_classes.specs.Subtypes.{Claim, interface_claim}
+use Rattle.kb_classes.specs.Rules.{IsFirst, IsNoneSuch, IsBad}
+use Rattle.kb_link.specs.Stops.{StopsAtBad}
+use Rattle.kb_classes.proofs.Firsts.{handed_on, first_before, first_behind, none_joined}
+use Rattle.kb_classes.proofs.Walks.{taken_next, cut_at}
+use Rattle.kb_link.proofs.Claiming.{stops_bad}
 use Rattle.kb_link.proofs.claims.check_interfaces.Goals as goal
 
 pub returns-in_err-check_claim-clause-refused : goal.returns-in_err-check_claim-clause-refused

@@ -1,6 +1,6 @@
 use Rattle.std.proofs.Common.{map, take}
-use Rattle.kb_link.specs.Subtypes.{interface_claim}
-use Rattle.kb_link.specs.Rules.{IsNoneSuch, IsBad}
+use Rattle.kb_classes.specs.Subtypes.{interface_claim}
+use Rattle.kb_classes.specs.Rules.{IsNoneSuch, IsBad}
 use Rattle.kb_link.proofs.claims.check_interfaces.Given as goal
 
 abbrev pub invariant-loop-place : goal.invariant-loop-place

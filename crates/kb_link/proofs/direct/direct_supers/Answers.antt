@@ -1,10 +1,10 @@
 use Rattle.std.proofs.Common.{List, subst}
 use Rattle.std.specs.List.{flat_map}
 use Rattle.kb_class.specs.Class.{Class}
-use Rattle.kb_link.specs.Subtypes.{super_names}
-use Rattle.kb_link.specs.Rules.{IsFirst, IsMissing}
-use Rattle.kb_link.specs.Links.{RefusesClasses}
-use Rattle.kb_link.proofs.Firsts.{first_here, handed_on}
+use Rattle.kb_classes.specs.Subtypes.{super_names}
+use Rattle.kb_classes.specs.Rules.{IsFirst, IsMissing}
+use Rattle.kb_classes.specs.Refusals.{RefusesClasses}
+use Rattle.kb_classes.proofs.Firsts.{first_here, handed_on}
 use Rattle.kb_link.proofs.Claiming.{missing_refuses}
 use Rattle.kb_link.proofs.direct.direct_supers.Goals as goal
 

@@ -1,7 +1,7 @@
 use Rattle.std.proofs.Common.{◌≡◌, map, take}
 use Rattle.std.specs.List.{flat_map}
-use Rattle.kb_link.specs.Subtypes.{super_names, numbers_of}
-use Rattle.kb_link.specs.Rules.{IsNoneSuch, IsMissing}
+use Rattle.kb_classes.specs.Subtypes.{super_names, numbers_of}
+use Rattle.kb_classes.specs.Rules.{IsNoneSuch, IsMissing}
 use Rattle.kb_link.proofs.direct.direct_supers.Given as goal
 
 abbrev pub invariant-loop-class : goal.invariant-loop-class

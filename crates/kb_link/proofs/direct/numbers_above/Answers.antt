@@ -1,6 +1,6 @@
-use Rattle.kb_link.specs.Subtypes.{parent_names, super_names}
-use Rattle.kb_link.specs.Rules.{IsMissing}
-use Rattle.kb_link.proofs.Firsts.{first_behind, err_as}
+use Rattle.kb_classes.specs.Subtypes.{parent_names, super_names}
+use Rattle.kb_classes.specs.Rules.{IsMissing}
+use Rattle.kb_classes.proofs.Firsts.{first_behind, err_as}
 use Rattle.kb_link.proofs.Claiming.{stops_missing}
 use Rattle.kb_link.proofs.direct.numbers_above.Goals as goal
 

@@ -1,10 +1,11 @@
 use Rattle.std.proofs.Common.{◌≡◌, ◌++◌, ◌∷◌, ◌+◌, [], List, ℕ, take, drop, sym, ap, ◌∙◌, subst, append_assoc}
-use Rattle.kb_link.specs.Subtypes.{numbers_of}
-use Rattle.kb_link.specs.Rules.{IsFirst, IsNoneSuch, IsMissing}
-use Rattle.kb_link.specs.Tables.{StopsAtMissing}
+use Rattle.kb_classes.specs.Subtypes.{numbers_of}
+use Rattle.kb_classes.specs.Rules.{IsFirst, IsNoneSuch, IsMissing}
+use Rattle.kb_link.specs.Stops.{StopsAtMissing}
 use Rattle.kb_link.proofs.Above.{numbers_more}
-use Rattle.kb_link.proofs.Firsts.{handed_on, first_before, first_behind, none_joined}
-use Rattle.kb_link.proofs.Claiming.{taken_next, cut_at, stops_missing}
+use Rattle.kb_classes.proofs.Firsts.{handed_on, first_before, first_behind, none_joined}
+use Rattle.kb_classes.proofs.Walks.{taken_next, cut_at}
+use Rattle.kb_link.proofs.Claiming.{stops_missing}
 use Rattle.kb_link.proofs.direct.with_interfaces.Goals as goal
 
 pub returns-in_err-numbers-clause-refused : goal.returns-in_err-numbers-clause-refused

@@ -1,6 +1,6 @@
 use Rattle.std.proofs.Common.{◌≡◌, ◌++◌, take}
-use Rattle.kb_link.specs.Subtypes.{numbers_of}
-use Rattle.kb_link.specs.Rules.{IsNoneSuch, IsMissing}
+use Rattle.kb_classes.specs.Subtypes.{numbers_of}
+use Rattle.kb_classes.specs.Rules.{IsNoneSuch, IsMissing}
 use Rattle.kb_link.proofs.direct.with_interfaces.Given as goal
 
 abbrev pub invariant-loop-place : goal.invariant-loop-place

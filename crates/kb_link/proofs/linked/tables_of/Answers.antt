@@ -1,6 +1,6 @@
 use Rattle.std.proofs.Common.{ap, ◌∙◌, map}
-use Rattle.kb_link.specs.Initialisers.{has_initialiser}
-use Rattle.kb_link.specs.Slots.{slots_along}
+use Rattle.kb_classes.specs.Initialisers.{has_initialiser}
+use Rattle.kb_classes.specs.Slots.{slots_along}
 use Rattle.kb_link.proofs.linked.tables_of.Goals as goal
 
 pub method_tables-requires : goal.method_tables-requires

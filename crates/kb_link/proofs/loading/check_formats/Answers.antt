@@ -1,7 +1,7 @@
 use Rattle.std.proofs.Common.{None, subst}
 use Rattle.kb_format.specs.Faults.{Tells}
 use Rattle.kb_link.specs.Links.{KeepsFormat}
-use Rattle.kb_link.proofs.Walks.{all_next}
+use Rattle.kb_classes.proofs.Walks.{all_next}
 use Rattle.kb_link.proofs.loading.check_formats.Goals as goal
 
 pub loop-file-preserved : goal.loop-file-preserved

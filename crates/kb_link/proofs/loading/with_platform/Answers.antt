@@ -3,7 +3,7 @@ use Rattle.std.proofs.lemmas.List.{length-append}
 use Rattle.kb_class.specs.Class.{Class}
 use Rattle.kb_class.specs.Platform.{PlatformClass, IsPlatform, platform_table}
 use Rattle.kb_link.specs.Links.{ArePlatform}
-use Rattle.kb_link.proofs.Claiming.{taken_next, all_taken}
+use Rattle.kb_classes.proofs.Walks.{taken_next, all_taken}
 use Rattle.kb_link.proofs.Loaded.{platform_many, table_many, taken_most, platform_pushed, there_below}
 use Rattle.kb_link.proofs.loading.with_platform.Goals as goal
 

@@ -2,7 +2,7 @@ use Rattle.std.proofs.Common.{◌≡◌, ℕ, List, sym, subst, ◌∙◌}
 use Rattle.std.specs.List.{AllZip}
 use Rattle.kb_class.specs.declared.members.MethodInfo.{MethodInfo}
 use Rattle.kb_numbers.specs.Numbers.{IsMethodPair}
-use Rattle.kb_link.specs.Rules.{IsFirst}
+use Rattle.kb_classes.specs.Rules.{IsFirst}
 use Rattle.kb_link.specs.Sharing.{IsShared, elsewhere_above}
 use Rattle.kb_link.proofs.SharingLaws.{stops_at_shared}
 use Rattle.kb_link.proofs.packages.check_class.Goals as goal

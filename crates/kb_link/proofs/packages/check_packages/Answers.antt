@@ -4,7 +4,7 @@ use Rattle.std.proofs.lemmas.Option.{slice_get_read}
 use Rattle.kb_class.specs.Class.{Class}
 use Rattle.kb_numbers.specs.declared.pairs.Pair.{Pair}
 use Rattle.kb_numbers.specs.Numbers.{IsMethodPair}
-use Rattle.kb_link.proofs.ByNumbers.{pairs_of}
+use Rattle.kb_link.proofs.SharedPairs.{pairs_of}
 use Rattle.kb_link.proofs.SharingLaws.{none_next, refuses_next}
 use Rattle.kb_link.proofs.packages.check_packages.Goals as goal
 

@@ -1,5 +1,5 @@
 use Rattle.std.proofs.Common.{take}
-use Rattle.kb_link.specs.Rules.{IsNoneSuch}
+use Rattle.kb_classes.specs.Rules.{IsNoneSuch}
 use Rattle.kb_link.specs.Sharing.{IsShared}
 use Rattle.kb_link.proofs.packages.first_shared.Given as goal
 

@@ -1,5 +1,5 @@
 use Rattle.std.proofs.Common.{true≢false, sym, ◌∙◌}
-use Rattle.kb_link.proofs.ByNumbers.{any_shares}
+use Rattle.kb_link.proofs.SharedPairs.{any_shares}
 use Rattle.kb_link.proofs.packages.is_shared.Goals as goal
 
 pub returns-then-not-is_of_package : goal.returns-then-not-is_of_package

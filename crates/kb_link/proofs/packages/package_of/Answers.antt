@@ -1,4 +1,4 @@
-use Rattle.kb_link.specs.Split.{package_of}
+use Rattle.kb_classes.specs.Split.{package_of}
 use Rattle.kb_link.proofs.SharingLaws.{package_found, package_less}
 use Rattle.kb_link.proofs.packages.package_of.Goals as goal
 

@@ -1,5 +1,5 @@
 use Rattle.std.proofs.Common.{◌≡◌, ◌-◌, take, length}
-use Rattle.kb_link.specs.Split.{package_of}
+use Rattle.kb_classes.specs.Split.{package_of}
 use Rattle.kb_link.proofs.packages.package_of.Given as goal
 
 abbrev pub invariant-loop-back : goal.invariant-loop-back

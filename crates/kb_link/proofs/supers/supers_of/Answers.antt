@@ -1,6 +1,6 @@
 use Rattle.std.proofs.Common.{◌≡◌, ◌↔◌, ◌<◌, ◌+◌, ℕ, List, [], Bool, true, length, slice_index_or, sym, subst, arith}
 use Rattle.kb_order.specs.Order.{IsComplete, IsAbove}
-use Rattle.kb_link.specs.Subtypes.{is_super}
+use Rattle.kb_classes.specs.Subtypes.{is_super}
 use Rattle.kb_link.proofs.Above.{supers_complete, rows_pushed}
 use Rattle.kb_link.proofs.supers.supers_of.Goals as goal
 

@@ -1,6 +1,6 @@
 use Rattle.std.proofs.Common.{◌≡◌, ◌↔◌, ◌<◌, ℕ, true, length, [], slice_index_or}
 use Rattle.kb_order.specs.Order.{IsAbove}
-use Rattle.kb_link.specs.Subtypes.{is_super}
+use Rattle.kb_classes.specs.Subtypes.{is_super}
 use Rattle.kb_link.proofs.supers.supers_of.Given as goal
 
 abbrev pub invariant-loop-low : goal.invariant-loop-low

@@ -2,8 +2,8 @@ use Rattle.std.proofs.Common.{◌≡◌, List, ℕ, ◌∙◌}
 use Rattle.std.specs.declared.alloc.Global.{Global}
 use Rattle.std.specs.declared.vec.Vec.{Vec}
 use Rattle.std.proofs.lemmas.Result.{IfOk-weaker}
-use Rattle.kb_report.specs.Report.{report_text}
-use Rattle.kb_report.specs.declared.report.Report.{Report}
+use Rattle.kb_report_text.specs.Report.{report_text}
+use Rattle.kb_report_text.specs.declared.report.Report.{Report}
 use Rattle.kb_report_laws.specs.OneText.{IsReport}
 use Rattle.kb_report_laws.proofs.law.own_report_text.Goals as goal
 

@@ -6,11 +6,12 @@ use Rattle.kb_chain.proofs.PropagationLaws.{taken_part}
 use Rattle.kb_sat.proofs.MarkedLaws.{read_at, covered_more, covered_skip}
 use Rattle.kb_sat.proofs.ReasonLaws.{reason_inside, reason_false}
 use Rattle.kb_sat.proofs.analysis.adds_nothing.Goals as goal
+use Rattle.kb_propagate.specs.Rows.{rows_of}
 use Rattle.kb_sat.proofs.analysis.adds_nothing.Goals.{then-variable+else-not-covers, else-variable}
 
 pub literals-literal-items-requires : goal.literals-literal-items-requires
 literals-literal-items-requires c =
-    reason_inside c.requires.justified.0 c.args.clauses.now c.args.trail.now c.requires.justified.1 c.args.position c.in_ok-number.number c.index-literals-position.result
+    reason_inside c.requires.justified.0 (rows_of c.args.clauses.now) c.args.trail.now c.requires.justified.1 c.args.position c.in_ok-number.number c.index-literals-position.result
     (read_at c.literals.result.now c.args.trail.now.literals c.args.position c.index-literals-position.result c.literals.ensures.value c.requires.inside c.index-literals-position.is)
     c.in_ok-number.ensures
 
@@ -19,7 +20,7 @@ covers-requires-clause-on_trail c =
     let i : has c.literals-literal-items.result.now c.literal-item.result ≡ true =
     ap (has c.literals-literal-items.result.now) c.literal-item.is ∙ has_get_or c.literals-literal-items.result.now c.loop-literal.literal-index c.literal-item.result c.loop-literal-test.true in
     taken_part c.args.trail.now.literals c.args.position (negated c.literal-item.result)
-    (reason_false c.requires.justified.0 c.args.clauses.now c.args.trail.now c.requires.justified.1 c.args.position c.in_ok-number.number c.index-literals-position.result
+    (reason_false c.requires.justified.0 (rows_of c.args.clauses.now) c.args.trail.now c.requires.justified.1 c.args.position c.in_ok-number.number c.index-literals-position.result
     c.literals-literal-items.result.now
     (read_at c.literals.result.now c.args.trail.now.literals c.args.position c.index-literals-position.result c.literals.ensures.value c.requires.inside c.index-literals-position.is)
     c.in_ok-number.ensures c.literals-literal-items.ensures c.literal-item.result i

@@ -1,7 +1,7 @@
 use Rattle.std.proofs.Common.{◌+◌, ◌-◌, ◌<◌, ap, sym, ◌∙◌, inl, inr, slice_get, length, arith}
 use Rattle.std.proofs.lemmas.Bool.{cases_eq}
 use Rattle.kb_sat.specs.Analysis.{is_seen}
-use Rattle.kb_eliminate.proofs.Places.{at_same, at_has}
+use Rattle.kb_propagate.proofs.Places.{at_same, at_has}
 use Rattle.kb_sat.proofs.MarkedLaws.{variable_inside, read_at}
 use Rattle.kb_sat.proofs.analysis.last_seen.Goals as goal
 

@@ -1,5 +1,5 @@
 use Rattle.std.proofs.Common.{◌<◌, ◌≤◌, ◌-◌, length}
-use Rattle.kb_eliminate.specs.Trail.{level_start}
+use Rattle.kb_propagate.specs.Trail.{level_start}
 use Rattle.kb_sat.proofs.analysis.level_of.Given as goal
 
 abbrev pub invariant-loop-low : goal.invariant-loop-low

@@ -6,10 +6,11 @@ use Rattle.kb_chain.specs.Literal.{Literal, negated}
 use Rattle.kb_chain.specs.Index.{has_number}
 use Rattle.kb_sat.specs.Analysis.{is_seen, AreMarked, IsReached, ArePut}
 use Rattle.kb_sat.specs.declared.analysis.Marks.{Marks}
-use Rattle.kb_eliminate.proofs.Places.{at_has}
+use Rattle.kb_propagate.proofs.Places.{at_has}
 use Rattle.kb_sat.proofs.MarkedLaws.{variable_inside, once_of, read_at, seen_read}
 use Rattle.kb_sat.proofs.ReasonLaws.{front, zero_below}
 use Rattle.kb_sat.proofs.MinimiseLaws.{number_last, front_rising, AreMarked-sorted, AreMarked-done, popped, AreMarked-popped, reached_kept, reached_away, IsPlaced, put_more, reached_end, clean_end}
+use Rattle.kb_propagate.specs.Rows.{rows_of}
 use Rattle.kb_sat.proofs.analysis.minimise.Goals as goal
 
 no_items : (xs : List ℕ) → length xs ≡ 0 → xs ≡ []
@@ -145,7 +146,7 @@ loop-position-preserved-in-Continue-1 c =
         done,
         λ all number justified r. subst (λ (z : List (ℕ × ℕ)). IsReached all number z c.args.trail.now.literals c.args.levels.zero c.in-Some.position later.seen.items c.loop-position.row.items)
             (sym c.in_ok-push-in-Some-adds_nothing.ensures.items)
-            (reached_away all c.args.clauses.now c.args.trail.now number c.loop-position.steps.items c.args.levels c.loop-position.invariant.bound.0 c.in-Some.position
+            (reached_away all (rows_of c.args.clauses.now) c.args.trail.now number c.loop-position.steps.items c.args.levels c.loop-position.invariant.bound.0 c.in-Some.position
             c.loop-position.marks.seen.items c.loop-position.row.items c.index-literals-position.result c.in-Some-adds_nothing.number c.variable-variable.result c.tell_trail.ensures once
             c.requires.levels justified at c.in-Some-adds_nothing.ensures.reason c.variable-variable.ensures.value marked top c.in-Some-adds_nothing.ensures.covered
             (c.loop-position.invariant.bound.5 all number justified r)),

@@ -2,10 +2,11 @@ use Rattle.std.proofs.Common.{◌-◌, ◌<◌, ◌≤◌, ◌∙◌, sym, subst
 use Rattle.kb_sat.specs.Analysis.{AreMarked, IsLastSeen, NoneSeen, IsReached}
 use Rattle.kb_sat.specs.declared.analysis.Marks.{Marks}
 use Rattle.std.specs.Vec.{with_item}
-use Rattle.kb_eliminate.proofs.Places.{at_has}
+use Rattle.kb_propagate.proofs.Places.{at_has}
 use Rattle.kb_sat.proofs.MarkedLaws.{variable_inside, once_of, read_at}
 use Rattle.kb_sat.proofs.ReasonLaws.{reason_inside, reason_before, decision_at, zero_below}
 use Rattle.kb_sat.proofs.LevelLaws.{found_above, found_marked, none_found, AreMarked-start, reached_point, reached_step, pending_grows, decision_last}
+use Rattle.kb_propagate.specs.Rows.{rows_of}
 use Rattle.kb_sat.proofs.analysis.resolve_level.Goals as goal
 
 -- without the mark of a variable of the last level
@@ -89,7 +90,7 @@ literals-row-requires c =
     subst (λ (z : List Bool). IsLastSeen c.args.trail.now.literals z c.loop-position.end c.in-Some.position) c.as_slice.ensures.value c.in-Some.ensures in
     let below : c.in-Some.position < length c.args.trail.now.literals = omega (arith, last.below, c.loop-position.invariant.marked.inside) in
     let at = read_at c.literals.result.now c.args.trail.now.literals c.in-Some.position c.index-literals-position.result c.literals.ensures.value below c.index-literals-position.is in
-    reason_inside c.requires.justified.0 c.args.clauses.now c.args.trail.now c.requires.justified.1 c.in-Some.position c.in-Some-reason.number c.index-literals-position.result at
+    reason_inside c.requires.justified.0 (rows_of c.args.clauses.now) c.args.trail.now c.requires.justified.1 c.in-Some.position c.in-Some-reason.number c.index-literals-position.result at
     c.in-Some-reason.ensures
 
 pub mark_others-requires-clause-marked : goal.mark_others-requires-clause-marked
@@ -107,7 +108,7 @@ mark_others-requires-clause-marked c =
     c.loop-position.invariant.pending refl refl (let some : 0 < c.loop-position.marks.pending = c.loop-position.invariant.pending in omega (arith, some)) in (
       c.in-Some.position,
       marked,
-      reason_before c.requires.justified.0 c.args.clauses.now c.args.trail.now c.requires.justified.1 c.in-Some.position c.in-Some-reason.number c.index-literals-position.result
+      reason_before c.requires.justified.0 (rows_of c.args.clauses.now) c.args.trail.now c.requires.justified.1 c.in-Some.position c.in-Some-reason.number c.index-literals-position.result
           c.literals-row.result.now at c.in-Some-reason.ensures c.literals-row.ensures c.variable-variable.result c.variable-variable.ensures.value,
     )
 
@@ -124,7 +125,7 @@ loop-position-preserved c =
     found_marked c.args.trail.now c.args.levels c.loop-position.end c.in-Some.position c.loop-position.marks (cleared c.loop-position.marks c.variable-variable.result)
     c.index-literals-position.result c.variable-variable.result c.literals.ensures.trail once at c.variable-variable.ensures.value last c.loop-position.invariant.marked
     c.loop-position.invariant.pending refl refl (let some : 0 < c.loop-position.marks.pending = c.loop-position.invariant.pending in omega (arith, some)) in
-    let before = reason_before c.requires.justified.0 c.args.clauses.now c.args.trail.now c.requires.justified.1 c.in-Some.position c.in-Some-reason.number c.index-literals-position.result
+    let before = reason_before c.requires.justified.0 (rows_of c.args.clauses.now) c.args.trail.now c.requires.justified.1 c.in-Some.position c.in-Some-reason.number c.index-literals-position.result
     c.literals-row.result.now at c.in-Some-reason.ensures c.literals-row.ensures c.variable-variable.result c.variable-variable.ensures.value in
     let more = c.in_ok-mark_others.ensures.marked c.in-Some.position marked before in
     record {
@@ -133,7 +134,7 @@ loop-position-preserved c =
           (cleared c.loop-position.marks c.variable-variable.result) c.mark_others.new.self marked more c.in_ok-mark_others.ensures.marks c.if-marks-eq0.false;
       reached = λ all number justified r. subst (λ (z : List (ℕ × ℕ)). IsReached all number z c.args.trail.now.literals c.args.levels.zero c.in-Some.position c.mark_others.new.self.seen.items [])
           (sym c.in_ok-push.ensures.items)
-          (reached_step all c.args.clauses.now c.args.trail.now number c.loop-position.steps.items c.args.levels c.loop-position.end c.in-Some.position c.loop-position.marks.seen.items
+          (reached_step all (rows_of c.args.clauses.now) c.args.trail.now number c.loop-position.steps.items c.args.levels c.loop-position.end c.in-Some.position c.loop-position.marks.seen.items
           (set c.loop-position.marks.seen.items c.variable-variable.result false) c.mark_others.new.self.seen.items c.literals-row.result.now c.index-literals-position.result
           c.in-Some-reason.number c.variable-variable.result c.literals.ensures.trail once c.requires.levels justified
           (let ordered : c.args.levels.zero ≤ c.args.levels.start = zero_below c.args.trail.now c.args.levels c.literals.ensures.trail c.requires.levels in omega (arith, ordered, above))

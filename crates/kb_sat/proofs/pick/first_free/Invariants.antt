@@ -1,5 +1,5 @@
 use Rattle.std.proofs.Common.{ℕ, ◌<◌, ◌≤◌}
-use Rattle.kb_eliminate.specs.Base.{IsValued}
+use Rattle.kb_propagate.specs.Base.{IsValued}
 use Rattle.kb_sat.proofs.pick.first_free.Given as goal
 
 abbrev pub invariant-loop-before : goal.invariant-loop-before

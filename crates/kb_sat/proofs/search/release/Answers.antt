@@ -1,7 +1,7 @@
 use Rattle.std.proofs.Common.{◌≡◌, ◌+◌, ◌*◌, ◌<◌, ◌≤◌, ◌∙◌, ap, true, length, arith, ℕ, get_or, List}
 use Rattle.kb_chain.specs.Literal.{Literal, has, place_of}
 use Rattle.kb_chain.proofs.OrderLaws.{has_get_or}
-use Rattle.kb_eliminate.proofs.Places.{variable_low}
+use Rattle.kb_propagate.proofs.Places.{variable_low}
 use Rattle.kb_sat.proofs.search.release.Goals as goal
 
 low : (xs : List Literal) (i n v : ℕ) (x : Literal) → i < length xs → x ≡ get_or xs i x → ((l : Literal) → has xs l ≡ true → place_of l < 2 * n + 2) → v ≡ x.variable → v ≤ n

@@ -1,6 +1,6 @@
 use Rattle.std.proofs.Common.{◌≡◌, ◌<◌, ◌≤◌, ◌-◌, true, false, length}
 use Rattle.kb_chain.specs.Propagation.{UnitRefutes}
-use Rattle.kb_eliminate.specs.Base.{Stands, IsReady}
+use Rattle.kb_propagate.specs.Base.{Stands, IsReady}
 use Rattle.kb_sat.specs.Solver.{Equipped}
 use Rattle.kb_sat.proofs.solver.search_to_end.Given as goal
 

@@ -1,5 +1,5 @@
 use Rattle.kb_test_lines.specs.Lines.{SpellsLine}
-use Rattle.kb_test_lines.proofs.ReadLaws.{none_read, some_read}
+use Rattle.kb_grammar.proofs.ReadLaws.{none_read, some_read}
 use Rattle.kb_test.proofs.Format.{if_takes, no_line}
 use Rattle.kb_test.proofs.reading.take_text.Goals as goal
 

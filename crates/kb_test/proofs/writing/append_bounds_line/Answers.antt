@@ -1,6 +1,6 @@
 use Rattle.std.proofs.Common.{List, ℕ, [], ◌∷◌, ◌++◌, ◌∙◌, ap, append_assoc}
 use Rattle.kb_test_lines.specs.Lines.{bounds_text, line_text}
-use Rattle.kb_test_lines.proofs.ReadLaws.{on_ok}
+use Rattle.kb_grammar.proofs.ReadLaws.{on_ok}
 use Rattle.kb_test.proofs.writing.append_bounds_line.Goals as goal
 
 pub returns-clause-ok : goal.returns-clause-ok

@@ -1,5 +1,5 @@
 use Rattle.std.proofs.Common.{◌≡◌, ◌∙◌, length, rules}
-use Rattle.kb_test_lines.proofs.ReadLaws.{on_ok}
+use Rattle.kb_grammar.proofs.ReadLaws.{on_ok}
 use Rattle.kb_test.proofs.Stated.{test_written}
 use Rattle.kb_test.proofs.writing.append_test.Goals as goal
 

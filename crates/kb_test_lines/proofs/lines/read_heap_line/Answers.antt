@@ -5,7 +5,7 @@ use Rattle.kb_test_lines.specs.declared.lines.Listed.{Listed}
 use Rattle.kb_test_lines.specs.declared.lines.Line.{Line}
 use Rattle.kb_test_lines.specs.declared.lines.Line.TheVariants.{Method, Limit, Arg, In, Ends, Out, New, End}
 use Rattle.kb_test_lines.specs.Lines.{line_text, SpellsObjectLine, SpellsOutLine, SpellsHeapLine}
-use Rattle.kb_test_lines.proofs.ReadLaws.{none_read}
+use Rattle.kb_grammar.proofs.ReadLaws.{none_read}
 use Rattle.kb_test_lines.proofs.lines.read_heap_line.Goals as goal
 
 none_spelled : (text : List ℕ) → ((parts : ℕ × Listed) → SpellsObjectLine (codes "in i") parts text → ⊥) → ((parts : ℕ × List Word) → SpellsOutLine parts text → ⊥)

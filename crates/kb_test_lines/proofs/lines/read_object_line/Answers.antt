@@ -1,5 +1,5 @@
 use Rattle.kb_test_lines.specs.Lines.{SpellsListed}
-use Rattle.kb_test_lines.proofs.ReadLaws.{none_read}
+use Rattle.kb_grammar.proofs.ReadLaws.{none_read}
 use Rattle.kb_test_lines.proofs.Parts.{bad_object}
 use Rattle.kb_test_lines.proofs.lines.read_object_line.Goals as goal
 

@@ -1,9 +1,9 @@
-use Rattle.kb_test_lines.proofs.WordLists.{IsReadSoFar}
 use Rattle.std.proofs.Common.{length}
+use Rattle.kb_test_lines.proofs.WordLists.{AreReadSoFar}
 use Rattle.kb_test_lines.proofs.words.read_words.Given as goal
 
 abbrev pub invariant-loop-others : goal.invariant-loop-others
-invariant-loop-others l = IsReadSoFar l.words l.rest l.text
+invariant-loop-others l = AreReadSoFar l.words l.rest l.text
 
 abbrev pub decreases-loop-others : goal.decreases-loop-others
 decreases-loop-others l = length l.rest

@@ -1,5 +1,5 @@
 use Rattle.kb_test_lines.specs.Words.{word_text, IsWord}
-use Rattle.kb_test_lines.proofs.ReadLaws.{behind_read}
+use Rattle.kb_grammar.proofs.ReadLaws.{behind_read}
 use Rattle.kb_test_lines.proofs.words.word_behind.Goals as goal
 
 pub returns : goal.returns

@@ -1,5 +1,5 @@
 use Rattle.std.proofs.Common.{◌<◌, length, sym, arith}
-use Rattle.kb_link.proofs.Named.{number_inside}
+use Rattle.kb_classes.proofs.Named.{number_inside}
 use Rattle.kb_universe.proofs.MarkLaws.{mark_told}
 use Rattle.kb_universe.proofs.marking.mark_class.Goals as goal
 

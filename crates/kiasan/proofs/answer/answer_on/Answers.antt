@@ -2,7 +2,7 @@ use Rattle.std.proofs.Common.{List, ℕ, Vec, Global, Err, subst}
 use Rattle.std.proofs.lemmas.Result.{err_from_is_err_and}
 use Rattle.kb_class.specs.declared.given.GivenClass.{GivenClass}
 use Rattle.kb_link.specs.Links.{Links}
-use Rattle.kb_link.specs.World.{World}
+use Rattle.kb_classes.specs.World.{World}
 use Rattle.kb_class.specs.Given.{AreGivenBy}
 use Rattle.kb_class.proofs.GivenLaws.{are_given}
 use Rattle.kiasan.specs.Answers.{Carries, RefusesClasses, RepliesIn}

@@ -2,7 +2,7 @@ use Rattle.std.proofs.Common.{◌≡◌, List, ap, ◌∙◌}
 use Rattle.std.proofs.lemmas.Result.{err_from_is_err_and}
 use Rattle.kb_diagram.specs.Diagram.{diagrams_text}
 use Rattle.kb_picture.specs.declared.path.Path.{Path}
-use Rattle.kb_report.specs.declared.report.Report.{Report}
+use Rattle.kb_report_text.specs.declared.report.Report.{Report}
 use Rattle.kiasan.specs.Answers.{IsDiagramsText}
 use Rattle.kiasan.specs.Exploring.{status_of}
 use Rattle.kiasan.proofs.JobLaws.{job_stops, job_ends}

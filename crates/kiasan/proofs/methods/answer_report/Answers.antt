@@ -1,6 +1,6 @@
 use Rattle.std.proofs.Common.{◌∙◌, ap, subst}
 use Rattle.std.proofs.lemmas.Result.{err_from_is_err_and}
-use Rattle.kb_report.specs.declared.report.Report.{Report}
+use Rattle.kb_report_text.specs.declared.report.Report.{Report}
 use Rattle.kiasan.specs.Answers.{IsOwnText, IsReportText}
 use Rattle.kiasan.specs.Exploring.{status_of}
 use Rattle.kiasan.proofs.JobLaws.{job_stops, job_ends, paths_sound}

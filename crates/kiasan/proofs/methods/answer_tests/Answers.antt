@@ -1,6 +1,6 @@
 use Rattle.std.proofs.Common.{◌∙◌, ap, subst}
 use Rattle.std.proofs.lemmas.Result.{err_from_is_err_and}
-use Rattle.kb_report.specs.declared.report.Report.{Report}
+use Rattle.kb_report_text.specs.declared.report.Report.{Report}
 use Rattle.kb_test.specs.Tests.{SpellsTests}
 use Rattle.kiasan.specs.Answers.{IsTestsTextOf}
 use Rattle.kb_report_tests.specs.Tests.{literals_in, tests_of}

@@ -1,6 +1,6 @@
 use Rattle.std.proofs.Common.{subst}
-use Rattle.kb_report.specs.Ranges.{ReportFits}
-use Rattle.kb_report.specs.declared.report.Report.{Report}
+use Rattle.kb_report_text.specs.Ranges.{ReportFits}
+use Rattle.kb_report_text.specs.declared.report.Report.{Report}
 use Rattle.kiasan.proofs.JobLaws.{built_report}
 use Rattle.kiasan.proofs.reports.report_of.Goals as goal
 

@@ -1,6 +1,6 @@
 use Rattle.std.proofs.Common.{◌≡◌, Err, sym, subst, ap, ◌∙◌}
 use Rattle.std.proofs.lemmas.Result.{err_from_is_err_and}
-use Rattle.kb_report.specs.declared.report.Report.{Report}
+use Rattle.kb_report_text.specs.declared.report.Report.{Report}
 use Rattle.kb_words.specs.declared.orders.Job.{Job}
 use Rattle.kiasan.specs.declared.refusals.Answer.{Answer}
 use Rattle.kb_refusals.specs.declared.refusal.Refusal.{Refusal}

@@ -2,7 +2,7 @@ use Rattle.std.proofs.Common.{rules, ◌≡◌, sym, subst}
 use Rattle.std.specs.Prelude.{IfOk}
 use Rattle.std.proofs.lemmas.Result.{IfOk-weaker}
 use Rattle.kb_picture.specs.declared.path.Path.{Path}
-use Rattle.kb_link.specs.World.{World}
+use Rattle.kb_classes.specs.World.{World}
 use Rattle.kb_picture.specs.WellFormed.{IsWellFormed}
 use Rattle.kb_frames.specs.Paths.{path_of}
 use Rattle.kb_frames.specs.State.{State}

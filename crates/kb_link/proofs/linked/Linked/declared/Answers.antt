@@ -1,6 +1,6 @@
 use Rattle.std.proofs.Common.{◌≡◌, ℕ, List, Some, None, sym, ap, subst, ◌∙◌}
 use Rattle.kb_class.specs.Class.{Class}
-use Rattle.kb_link.specs.World.{World, number_in}
+use Rattle.kb_classes.specs.World.{World, number_in}
 use Rattle.kb_link.specs.Links.{IsLinked}
 use Rattle.kb_link.proofs.TargetLaws.{undeclared_class, paired_declares, unpaired_undeclared, paired_alone}
 use Rattle.kb_link.proofs.linked.Linked.declared.Goals as goal

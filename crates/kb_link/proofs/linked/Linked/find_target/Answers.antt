@@ -1,7 +1,7 @@
 use Rattle.std.proofs.Common.{◌≡◌, Bool, false, true, is_some, not, sym, ap, ◌∙◌}
 use Rattle.std.proofs.lemmas.Option.{slice_get_within}
-use Rattle.kb_link.specs.World.{methods_in}
-use Rattle.kb_link.specs.Split.{is_special}
+use Rattle.kb_classes.specs.World.{methods_in}
+use Rattle.kb_classes.specs.Split.{is_special}
 use Rattle.kb_link.proofs.TargetLaws.{has_code, has_no_code}
 use Rattle.kb_link.proofs.linked.Linked.find_target.Goals as goal
 

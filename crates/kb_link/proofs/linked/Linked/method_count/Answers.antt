@@ -1,6 +1,6 @@
 use Rattle.std.proofs.Common.{◌≡◌, length, ap, ◌∙◌, arith}
-use Rattle.kb_link.specs.World.{World, methods_in}
-use Rattle.kb_link.proofs.MethodNumbers.{same_lengths}
+use Rattle.kb_classes.specs.World.{World, methods_in}
+use Rattle.kb_classes.proofs.MethodNumbers.{same_lengths}
 use Rattle.kb_link.proofs.linked.Linked.method_count.Goals as goal
 
 pub returns : goal.returns

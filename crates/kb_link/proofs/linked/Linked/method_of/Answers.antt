@@ -1,8 +1,8 @@
 use Rattle.std.proofs.Common.{◌≡◌, ◌<◌, List, Some, length, slice_get, sym, ap, subst}
 use Rattle.std.proofs.lemmas.Option.{slice_get_within}
 use Rattle.kb_class.specs.Class.{Class}
-use Rattle.kb_link.specs.World.{World, methods_in}
-use Rattle.kb_link.proofs.MethodNumbers.{IsPlaceOf, place_of, within_methods, method_read}
+use Rattle.kb_classes.specs.World.{World, methods_in}
+use Rattle.kb_classes.proofs.MethodNumbers.{IsPlaceOf, place_of, within_methods, method_read}
 use Rattle.kb_link.proofs.linked.Linked.method_of.Goals as goal
 
 pub bounds-as_slice-at : goal.bounds-as_slice-at

@@ -1,7 +1,7 @@
 use Rattle.std.proofs.Common.{List, sym, ap, subst}
 use Rattle.kb_class.specs.Class.{Class}
 use Rattle.kb_numbers.specs.Numbers.{AreNumbered}
-use Rattle.kb_link.specs.World.{World}
+use Rattle.kb_classes.specs.World.{World}
 use Rattle.kb_link.proofs.linked.Linked.numbers.Goals as goal
 
 pub returns : goal.returns

@@ -4,7 +4,7 @@ use Rattle.kb_class.specs.Class.{Class}
 use Rattle.kb_numbers.specs.declared.pairs.Pair.{Pair}
 use Rattle.kb_numbers.specs.Members.{method_number}
 use Rattle.kb_numbers.specs.Numbers.{AreNumbered}
-use Rattle.kb_link.specs.World.{World}
+use Rattle.kb_classes.specs.World.{World}
 use Rattle.kb_link.specs.Tables.{IsNumberOf}
 use Rattle.kb_link.proofs.ByNumbers.{number_by_pair, pair_of_number}
 use Rattle.kb_link.proofs.linked.Linked.paired.Goals as goal

@@ -3,8 +3,8 @@ use Rattle.kb_names.specs.Shape.{Shape}
 use Rattle.kb_names.specs.Types.{shape_of, arrays_of}
 use Rattle.kb_names.specs.declared.types.JType.TheVariants.{Array}
 use Rattle.kb_names.proofs.ShapeLaws.{shape_of-arrays_of}
-use Rattle.kb_link.specs.World.{World}
-use Rattle.kb_link.specs.Subtypes.{fits_shapes, type_fits}
+use Rattle.kb_classes.specs.World.{World}
+use Rattle.kb_classes.specs.Subtypes.{fits_shapes, type_fits}
 use Rattle.kb_link.proofs.linked.Linked.type_fits.Goals as goal
 
 components_fit : (world : World) (inner outer : Shape) → type_fits world (arrays_of inner.dims inner.base) (arrays_of outer.dims outer.base) ≡ type_fits world (Array inner) (Array outer)

@@ -1,6 +1,6 @@
 use Rattle.std.proofs.Common.{◌≡◌}
 use Rattle.kb_names.specs.Types.{shape_of}
-use Rattle.kb_link.specs.Subtypes.{type_fits}
+use Rattle.kb_classes.specs.Subtypes.{type_fits}
 use Rattle.kb_link.proofs.linked.Linked.type_fits.Given as goal
 
 abbrev pub invariant-loop-below : goal.invariant-loop-below

@@ -1,6 +1,6 @@
 use Rattle.std.proofs.Common.{◌≡◌, ℕ, Some, refl, sym, ap, ◌∙◌}
 use Rattle.std.specs.Option.{option_copied}
-use Rattle.kb_world.specs.Lookup.{resolved_field}
+use Rattle.kb_resolution.specs.Lookup.{resolved_field}
 use Rattle.kb_semantics.specs.Config.{class_number}
 use Rattle.kb_semantics.specs.Instructions.{get_field}
 use Rattle.kb_semantics.specs.Ways.{null_pointer, throws}

@@ -4,7 +4,7 @@ use Rattle.kb_class.specs.Platform.{throwable}
 use Rattle.kb_heap.specs.declared.heap.Object.{Object}
 use Rattle.kb_heap.specs.declared.heap.Value.{Value}
 use Rattle.kb_heap.specs.Heap.{object_at}
-use Rattle.kb_link.specs.Subtypes.{fits}
+use Rattle.kb_classes.specs.Subtypes.{fits}
 use Rattle.kb_semantics.specs.Config.{Setting, Config, Frame, Outcome}
 use Rattle.kb_semantics.specs.Instructions.{throw, with}
 use Rattle.kb_semantics.specs.Operands.{a_reference}

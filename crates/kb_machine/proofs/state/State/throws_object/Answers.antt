@@ -6,7 +6,7 @@ use Rattle.kb_class.specs.Platform.{throwable}
 use Rattle.kb_heap.specs.declared.heap.Heap.{Heap}
 use Rattle.kb_heap.specs.declared.heap.Object.{Object}
 use Rattle.kb_heap.specs.Heap.{object_at}
-use Rattle.kb_link.specs.Subtypes.{fits}
+use Rattle.kb_classes.specs.Subtypes.{fits}
 use Rattle.kb_machine.specs.Turns.{config_of}
 use Rattle.kb_machine.specs.declared.unwinding.Landing.TheVariants as landings
 use Rattle.kb_machine.proofs.LandingLaws.{thrown_there, caught}

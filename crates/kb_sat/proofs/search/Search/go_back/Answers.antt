@@ -1,7 +1,7 @@
 use Rattle.std.proofs.Common.{◌+◌, ◌*◌, ◌<◌, ◌∙◌, ap, sym, subst}
 use Rattle.std.proofs.lemmas.List.{take_rest}
 use Rattle.kb_chain.specs.Literal.{has, place_of}
-use Rattle.kb_eliminate.proofs.Places.{dropped_part}
+use Rattle.kb_propagate.proofs.Places.{dropped_part}
 use Rattle.kb_sat.proofs.search.Search.go_back.Goals as goal
 
 pub release-requires-clause-within : goal.release-requires-clause-within

@@ -1,21 +1,25 @@
 use Rattle.std.proofs.Common.{◌≡◌, ◌+◌, ◌-◌, ◌*◌, ◌<◌, ◌≤◌, ◌∙◌, ap, sym, subst, length, take, [], ◌∷◌, ◌++◌, arith, Some, get_or}
 use Rattle.kb_chain.specs.Literal.{has, negated, place_of}
-use Rattle.kb_eliminate.specs.Trail.{Assigned, before_level, level_start}
-use Rattle.kb_eliminate.specs.Watches.{Quiet, paired, put_pair}
-use Rattle.kb_eliminate.specs.Base.{IsSecondLiteral}
-use Rattle.kb_eliminate.specs.declared.watches.Watches.{Watches}
-use Rattle.kb_eliminate.proofs.JustifyLaws.{pushed}
-use Rattle.kb_eliminate.proofs.BaseLaws.{not_false_before, IsBase_same}
+use Rattle.kb_propagate.specs.Trail.{Assigned, before_level, level_start}
+use Rattle.kb_propagate.specs.Rows.{rows_of, awake_clause}
+use Rattle.kb_propagate.specs.Watches.{pairs_of, Quiet, paired, put_pair}
+use Rattle.kb_propagate.specs.Base.{IsSecondLiteral}
+use Rattle.kb_propagate.specs.declared.watches.Watches.{Watches}
+use Rattle.kb_propagate.proofs.JustifyLaws.{pushed}
+use Rattle.kb_propagate.proofs.BaseLaws.{not_false_before, IsBase_same}
 use Rattle.kb_sat.proofs.LearnLaws.{learned_false, IsAsserting-from, IsBase-learn, ready-learn, learned_trail, asserting_place, asserting_absent}
 use Rattle.kb_sat.specs.Analysis.{IsClean}
 use Rattle.kb_sat.specs.declared.analysis.Marks.{Marks}
+use Rattle.kb_propagate.proofs.ClausesLaws.{rows_pushed}
+use Rattle.kb_propagate.proofs.Places.{some_in}
+use Rattle.kb_propagate.proofs.PairLaws.{pairs_pushed}
 use Rattle.kb_sat.proofs.search.Search.learn.Goals as goal
 
 pub analyse-requires-clause-last : goal.analyse-requires-clause-last
 analyse-requires-clause-last c row e =
     let s = c.args.self.now.base in
     let lt : length s.trail.starts - 1 < length s.trail.starts = (let n : 0 < length s.trail.starts = c.requires.level in omega (arith, n)) in
-    not_false_before s.formula.now s.entries s.clauses s.watches.pairs.items s.watches.lists.items s.trail s.whole c.requires.stands c.tell_trail.ensures (length s.trail.starts - 1) lt c.args.conflict row e c.requires.awake
+    not_false_before s.formula.now s.entries (rows_of s.clauses) (pairs_of s.clauses) s.watches.lists.items s.trail s.whole c.requires.stands c.tell_trail.ensures (length s.trail.starts - 1) lt c.args.conflict row e c.requires.awake
 
 pub levels_of-levels-requires : goal.levels_of-levels-requires
 levels_of-levels-requires c m e =
@@ -97,22 +101,24 @@ returns-clause-goes_on c =
     let b = c.second_of-second.result in
     let p = IsAsserting-from c.requires.stands.clauses t l.chain l.literals l.level a b c.tell_trail.ensures k
     (c.index-row-0.is ∙ ap (λ z. get_or z 0 a) c.as_slice-row.ensures) (subst (λ z. IsSecondLiteral z b) c.as_slice-row.ensures c.second_of-second.ensures) in
-    let n = length c.go_back.new.self.base.clauses in
+    let n = length (rows_of c.go_back.new.self.base.clauses) in
     let g = c.in_ok-go_back.ensures in
     let kept = c.in_ok-keep.ensures in
     let new = c.keep.new.self in
-    let rows : new.base.clauses ≡ s.clauses ++ l.literals ∷ [] =
-    kept.clauses ∙ (ap (λ z. z ++ c.as_slice-row.result.now ∷ []) g.clauses ∙ ap (λ z. s.clauses ++ z ∷ []) c.as_slice-row.ensures) in
-    let pairs : new.base.watches.pairs.items ≡ s.watches.pairs.items ++ paired a b ∷ [] =
-    kept.pairs ∙ ap (λ (w : Watches). w.pairs.items ++ paired a b ∷ []) g.watches in
+    let clauses : new.base.clauses ≡ s.clauses ++ awake_clause l.literals ∷ [] =
+    kept.clauses ∙ (ap (λ z. z ++ awake_clause c.as_slice-row.result.now ∷ []) g.clauses ∙ ap (λ z. s.clauses ++ awake_clause z ∷ []) c.as_slice-row.ensures) in
+    let rows : rows_of new.base.clauses ≡ rows_of s.clauses ++ l.literals ∷ [] = ap rows_of clauses ∙ rows_pushed s.clauses (awake_clause l.literals) in
+    let pairs : pairs_of new.base.clauses ≡ pairs_of s.clauses ++ paired a b ∷ [] =
+    ap pairs_of clauses ∙ pairs_pushed s.clauses l.literals a b (some_in l.literals a p.first) (c.index-row-0.is ∙ ap (λ z. get_or z 0 a) c.as_slice-row.ensures)
+    (subst (λ z. IsSecondLiteral z b) c.as_slice-row.ensures c.second_of-second.ensures) in
     let trail : new.base.trail ≡ learned_trail t l.level a n = kept.trail ∙ ap (λ (z : Assigned). pushed z a (Some n) z.starts) g.trail in
     let lists : new.base.watches.lists.items ≡ put_pair s.watches.lists.items a b n = kept.lists ∙ ap (λ (w : Watches). put_pair w.lists.items a b n) g.watches in
     let vars : new.base.trail.vars ≡ c.go_back.new.self.base.trail.vars = ap (λ (z : Assigned). z.vars) kept.trail in
-    let stands = IsBase_same new.base.formula.now s.formula.now new.base.entries (s.entries ++ l.chain ∷ []) new.base.clauses (s.clauses ++ l.literals ∷ [])
-    new.base.watches.pairs.items (s.watches.pairs.items ++ paired a b ∷ []) new.base.watches.lists.items (put_pair s.watches.lists.items a b n)
+    let stands = IsBase_same new.base.formula.now s.formula.now new.base.entries (s.entries ++ l.chain ∷ []) (rows_of new.base.clauses) (rows_of s.clauses ++ l.literals ∷ [])
+    (pairs_of new.base.clauses) (pairs_of s.clauses ++ paired a b ∷ []) new.base.watches.lists.items (put_pair s.watches.lists.items a b n)
     new.base.trail (learned_trail t l.level a n) new.base.whole s.whole
-    (kept.formula ∙ g.formula) (kept.entries ∙ (g.entries ∙ c.in_ok-push.ensures.ok)) rows pairs lists trail (kept.whole ∙ g.whole)
-    (IsBase-learn s.formula.now s.entries s.clauses s.watches.pairs.items s.watches.lists.items t s.whole c.requires.stands l.chain l.literals l.level a b n c.tell_trail.ensures k p (ap length g.clauses)) in
+    (kept.formula ∙ g.formula) (kept.entries ∙ (g.entries ∙ (c.in_ok-push.ensures ∙ ap (λ z. s.entries ++ record { start = l.chain.start; steps = z } ∷ []) c.as_slice-2.ensures))) rows pairs lists trail (kept.whole ∙ g.whole)
+    (IsBase-learn s.formula.now s.entries (rows_of s.clauses) (pairs_of s.clauses) s.watches.lists.items t s.whole c.requires.stands l.chain l.literals l.level a b n c.tell_trail.ensures k p (ap (λ z. length (rows_of z)) g.clauses)) in
     record {
       stands = stands;
       equipped = record {
@@ -133,21 +139,23 @@ returns-clause-ready c =
     let b = c.second_of-second.result in
     let p = IsAsserting-from c.requires.stands.clauses t l.chain l.literals l.level a b c.tell_trail.ensures k
     (c.index-row-0.is ∙ ap (λ z. get_or z 0 a) c.as_slice-row.ensures) (subst (λ z. IsSecondLiteral z b) c.as_slice-row.ensures c.second_of-second.ensures) in
-    let n = length c.go_back.new.self.base.clauses in
+    let n = length (rows_of c.go_back.new.self.base.clauses) in
     let g = c.in_ok-go_back.ensures in
     let kept = c.in_ok-keep.ensures in
     let new = c.keep.new.self in
-    let rows : new.base.clauses ≡ s.clauses ++ l.literals ∷ [] =
-    kept.clauses ∙ (ap (λ z. z ++ c.as_slice-row.result.now ∷ []) g.clauses ∙ ap (λ z. s.clauses ++ z ∷ []) c.as_slice-row.ensures) in
-    let pairs : new.base.watches.pairs.items ≡ s.watches.pairs.items ++ paired a b ∷ [] =
-    kept.pairs ∙ ap (λ (w : Watches). w.pairs.items ++ paired a b ∷ []) g.watches in
+    let clauses : new.base.clauses ≡ s.clauses ++ awake_clause l.literals ∷ [] =
+    kept.clauses ∙ (ap (λ z. z ++ awake_clause c.as_slice-row.result.now ∷ []) g.clauses ∙ ap (λ z. s.clauses ++ awake_clause z ∷ []) c.as_slice-row.ensures) in
+    let rows : rows_of new.base.clauses ≡ rows_of s.clauses ++ l.literals ∷ [] = ap rows_of clauses ∙ rows_pushed s.clauses (awake_clause l.literals) in
+    let pairs : pairs_of new.base.clauses ≡ pairs_of s.clauses ++ paired a b ∷ [] =
+    ap pairs_of clauses ∙ pairs_pushed s.clauses l.literals a b (some_in l.literals a p.first) (c.index-row-0.is ∙ ap (λ z. get_or z 0 a) c.as_slice-row.ensures)
+    (subst (λ z. IsSecondLiteral z b) c.as_slice-row.ensures c.second_of-second.ensures) in
     let trail : new.base.trail ≡ learned_trail t l.level a n = kept.trail ∙ ap (λ (z : Assigned). pushed z a (Some n) z.starts) g.trail in
-    let r = ready-learn s.formula.now s.entries s.clauses s.watches.pairs.items s.watches.lists.items t s.whole c.requires.stands l.literals l.level a b c.tell_trail.ensures k.below p in
+    let r = ready-learn s.formula.now s.entries (rows_of s.clauses) (pairs_of s.clauses) s.watches.lists.items t s.whole c.requires.stands l.literals l.level a b c.tell_trail.ensures k.below p in
     let head : new.base.head ≡ level_start t.starts l.level = kept.head ∙ g.head in
     record {
       head = subst (λ m. m ≤ length new.base.trail.literals) (sym head) (subst (λ (z : Assigned). level_start t.starts l.level ≤ length z.literals) (sym trail) r.0);
-      quiet = subst (λ z. Quiet z new.base.watches.pairs.items (has (take new.base.head new.base.trail.literals)) (has new.base.trail.literals)) (sym rows)
-          (subst (λ z. Quiet (s.clauses ++ l.literals ∷ []) z (has (take new.base.head new.base.trail.literals)) (has new.base.trail.literals)) (sym pairs)
-          (subst (λ (z : Assigned). Quiet (s.clauses ++ l.literals ∷ []) (s.watches.pairs.items ++ paired a b ∷ []) (has (take new.base.head z.literals)) (has z.literals)) (sym trail)
-          (subst (λ m. Quiet (s.clauses ++ l.literals ∷ []) (s.watches.pairs.items ++ paired a b ∷ []) (has (take m (before_level t l.level ++ a ∷ []))) (has (before_level t l.level ++ a ∷ []))) (sym head) r.1)));
+      quiet = subst (λ z. Quiet z (pairs_of new.base.clauses) (has (take new.base.head new.base.trail.literals)) (has new.base.trail.literals)) (sym rows)
+          (subst (λ z. Quiet (rows_of s.clauses ++ l.literals ∷ []) z (has (take new.base.head new.base.trail.literals)) (has new.base.trail.literals)) (sym pairs)
+          (subst (λ (z : Assigned). Quiet (rows_of s.clauses ++ l.literals ∷ []) (pairs_of s.clauses ++ paired a b ∷ []) (has (take new.base.head z.literals)) (has z.literals)) (sym trail)
+          (subst (λ m. Quiet (rows_of s.clauses ++ l.literals ∷ []) (pairs_of s.clauses ++ paired a b ∷ []) (has (take m (before_level t l.level ++ a ∷ []))) (has (before_level t l.level ++ a ∷ []))) (sym head) r.1)));
     }

@@ -1,5 +1,5 @@
 use Rattle.std.proofs.Common.{◌+◌, ◌-◌, ◌*◌, length}
-use Rattle.kb_eliminate.specs.Base.{IsReady}
+use Rattle.kb_propagate.specs.Base.{IsReady}
 use Rattle.kb_sat.specs.Solver.{Keeps}
 use Rattle.kb_sat.proofs.search.Search.run.Given as goal
 

@@ -1,5 +1,5 @@
-use Rattle.std.proofs.Common.{◌∙◌, []}
-use Rattle.kb_test_lines.proofs.ReadLaws.{on_ok}
+use Rattle.std.proofs.Common.{◌∙◌}
+use Rattle.kb_grammar.proofs.ReadLaws.{on_ok}
 use Rattle.kb_test.proofs.Appending.{run_parts, kept_more, kept_behind}
 use Rattle.kb_test.proofs.writing.Counts.append_run.Goals as goal
 

@@ -1,5 +1,5 @@
 use Rattle.std.proofs.Common.{◌≡◌, ℕ, ◌+◌, ◌<◌, true, slice_index_or}
-use Rattle.kb_link.specs.Subtypes.{is_super}
+use Rattle.kb_classes.specs.Subtypes.{is_super}
 use Rattle.kb_universe.proofs.marks.Marks.has_array_under.Given as goal
 
 abbrev pub invariant-loop-low : goal.invariant-loop-low

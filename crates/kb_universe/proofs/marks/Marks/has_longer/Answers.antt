@@ -1,7 +1,7 @@
 use Rattle.std.proofs.Common.{sym, ap, ◌∙◌}
 use Rattle.std.specs.Option.{option_copied}
 use Rattle.kb_names.specs.Types.{shape_of}
-use Rattle.kb_link.specs.Subtypes.{is_above_arrays}
+use Rattle.kb_classes.specs.Subtypes.{is_above_arrays}
 use Rattle.kb_universe.proofs.ArraysBelow.{longer_told, not_longer, none_longer}
 use Rattle.kb_universe.proofs.marks.Marks.has_longer.Goals as goal
 

@@ -1,10 +1,10 @@
 use Rattle.std.proofs.Common.{◌≡◌, Some, slice_get, subst, ◌∙◌}
 use Rattle.kb_class.specs.References.{sought_of}
-use Rattle.kb_link.specs.World.{World}
-use Rattle.kb_world.specs.Lookup.{sought_at}
+use Rattle.kb_classes.specs.World.{World}
+use Rattle.kb_resolution.specs.Lookup.{sought_at}
 use Rattle.kb_world.proofs.Inside.{resolved_at}
-use Rattle.kb_world.proofs.KnownLaws.{found_owner}
-use Rattle.kb_world.proofs.RowLaws.{sought_told}
+use Rattle.kb_world.proofs.CallLaws.{found_owner}
+use Rattle.kb_resolution.proofs.RowLaws.{sought_told}
 use Rattle.kb_world.proofs.world.World.add_called.Goals as goal
 
 pub add_for-requires-clause-owner : goal.add_for-requires-clause-owner

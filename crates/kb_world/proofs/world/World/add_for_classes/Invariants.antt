@@ -1,6 +1,6 @@
 use Rattle.std.proofs.Common.{◌≡◌, length, nat_lt, true}
 use Rattle.std.specs.List.{filter_map, list_all}
-use Rattle.kb_link.specs.World.{methods_in}
+use Rattle.kb_classes.specs.World.{methods_in}
 use Rattle.kb_world.specs.Calls.{if_code}
 use Rattle.kb_world.specs.Receivers.{called_below, receivers_in}
 use Rattle.kb_world.specs.Walks.{with_all}

@@ -4,7 +4,7 @@ use Rattle.std.specs.Option.{option_map}
 use Rattle.kb_class.specs.declared.ids.MethodId.{MethodId}
 use Rattle.kb_universe.specs.Marks.{class_types}
 use Rattle.kb_world.specs.Calls.{called_on, if_code}
-use Rattle.kb_world.specs.Found.{FoundMethods}
+use Rattle.kb_universe.specs.Found.{FoundMethods}
 use Rattle.kb_world.specs.Receivers.{called_among}
 use Rattle.kb_world.specs.Walks.{with_all}
 use Rattle.kb_world.proofs.Inside.{array_told}

@@ -1,5 +1,5 @@
 use Rattle.std.proofs.Common.{◌≡◌, sym, ap, ◌∙◌, None, Some}
-use Rattle.kb_link.proofs.LiteralLaws.{on_ok}
+use Rattle.kb_classes.proofs.Firsts.{on_ok}
 use Rattle.kb_world.specs.Calls.{use_fault, use_mentions, fault_of, mentions}
 use Rattle.kb_world.specs.Walks.{with_all}
 use Rattle.kb_world.proofs.Items.{use_is, none_mentioned, use_stops, if_err}

@@ -1,5 +1,5 @@
 use Rattle.std.proofs.Common.{ap, ◌∙◌}
-use Rattle.kb_world.specs.Found.{FoundMethods}
+use Rattle.kb_universe.specs.Found.{FoundMethods}
 use Rattle.kb_world.proofs.Items.{fault_later, mention_next, stops_here}
 use Rattle.kb_world.proofs.world.World.check_items.Goals as goal
 

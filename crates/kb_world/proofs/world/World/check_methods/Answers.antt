@@ -1,9 +1,9 @@
 use Rattle.std.proofs.Common.{◌≡◌, List, ℕ, ◌+◌, ◌-◌, ◌<◌, [], ◌∷◌, length, Some, None, slice_get, sym, ap, subst, ◌∙◌, arith}
-use Rattle.kb_link.specs.World.{World, methods_in}
-use Rattle.kb_world.specs.Found.{FoundMethods}
+use Rattle.kb_classes.specs.World.{World, methods_in}
+use Rattle.kb_universe.specs.Found.{FoundMethods}
 use Rattle.kb_world.specs.Reach.{method_mentions}
 use Rattle.kb_world.specs.Walks.{with_all, AreSettled}
-use Rattle.kb_world.specs.declared.looked.Asked.{Asked}
+use Rattle.kb_universe.specs.declared.looked.Asked.{Asked}
 use Rattle.kb_world.proofs.Settling.{none_settled}
 use Rattle.kb_world.proofs.Reaching.{IsWalked, walk_starts, walk_goes, walk_ends, walk_stops}
 use Rattle.kb_world.proofs.world.World.check_methods.Goals as goal

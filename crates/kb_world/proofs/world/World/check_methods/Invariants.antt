@@ -1,5 +1,5 @@
 use Rattle.std.proofs.Common.{◌≡◌, ◌-◌, length}
-use Rattle.kb_link.specs.World.{methods_in}
+use Rattle.kb_classes.specs.World.{methods_in}
 use Rattle.kb_world.specs.Walks.{AreSettled}
 use Rattle.kb_world.proofs.Reaching.{IsWalked}
 use Rattle.kb_world.proofs.world.World.check_methods.Given as goal

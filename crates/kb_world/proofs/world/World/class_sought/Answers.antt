@@ -2,8 +2,8 @@ use Rattle.std.proofs.Common.{◌≡◌, List, ℕ, sym, ap, ◌∙◌}
 use Rattle.std.specs.Option.{option_map}
 use Rattle.kb_names.specs.declared.types.ExactType.{ExactType}
 use Rattle.kb_class.specs.declared.ids.ClassId.{ClassId}
-use Rattle.kb_link.specs.World.{World, number_in}
-use Rattle.kb_world.specs.Lookup.{class_of}
+use Rattle.kb_classes.specs.World.{World, number_in}
+use Rattle.kb_resolution.specs.Lookup.{class_of}
 use Rattle.kb_world.proofs.Inside.{class_told}
 use Rattle.kb_world.proofs.world.World.class_sought.Goals as goal
 

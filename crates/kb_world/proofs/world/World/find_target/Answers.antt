@@ -1,7 +1,7 @@
 use Rattle.std.proofs.Common.{◌≡◌, IfSome, IfNone, subst}
 use Rattle.kb_class.specs.declared.ids.MethodId.{MethodId}
 use Rattle.kb_link.specs.Targets.{IsTargetOf}
-use Rattle.kb_link.specs.World.{World}
+use Rattle.kb_classes.specs.World.{World}
 use Rattle.kb_world.proofs.world.World.find_target.Goals as goal
 
 pub returns-clause-none : goal.returns-clause-none

@@ -1,6 +1,6 @@
 use Rattle.std.proofs.Common.{◌↔◌, IsTrue, subst}
 use Rattle.kb_class.specs.Naming.{Has}
-use Rattle.kb_link.specs.World.{World}
+use Rattle.kb_classes.specs.World.{World}
 use Rattle.kb_world.proofs.world.World.is_in_universe.Goals as goal
 
 pub returns : goal.returns

@@ -1,10 +1,10 @@
 use Rattle.std.proofs.Common.{Bool, sym, ap, ◌∙◌}
-use Rattle.kb_link.specs.declared.linking.What.TheVariants as whats
+use Rattle.kb_classes.specs.declared.refusal.What.TheVariants as whats
 use Rattle.kb_world.specs.Calls.{fault_of_number}
-use Rattle.kb_world.specs.Faults.{Outside}
-use Rattle.kb_world.specs.Lookup.{only_where, or_else, resolved_method}
-use Rattle.kb_world.specs.Tables.{kind_owner}
-use Rattle.kb_world.proofs.KnownLaws.{method_told}
+use Rattle.kb_universe.specs.Faults.{Outside}
+use Rattle.kb_resolution.specs.Lookup.{only_where, or_else, resolved_method}
+use Rattle.kb_resolution.specs.Tables.{kind_owner}
+use Rattle.kb_world.proofs.CallLaws.{method_told}
 use Rattle.kb_world.proofs.world.World.kind_fault.Goals as goal
 
 pub returns-then-known : goal.returns-then-known

@@ -1,5 +1,5 @@
 use Rattle.std.proofs.Common.{sym}
-use Rattle.kb_link.proofs.Named.{number_inside}
+use Rattle.kb_classes.proofs.Named.{number_inside}
 use Rattle.kb_world.proofs.world.World.new_class_fault.Goals as goal
 
 pub object_fault-requires : goal.object_fault-requires

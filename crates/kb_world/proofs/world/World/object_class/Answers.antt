@@ -4,7 +4,7 @@ use Rattle.kb_names.specs.declared.types.ExactType.TheVariants as exact
 use Rattle.kb_names.specs.declared.types.JType.TheVariants as types
 use Rattle.kb_class.specs.declared.ids.ClassId.{ClassId}
 use Rattle.kb_class.specs.Platform.{object_name}
-use Rattle.kb_link.specs.World.{World, number_in}
+use Rattle.kb_classes.specs.World.{World, number_in}
 use Rattle.kb_world.proofs.Inside.{class_told}
 use Rattle.kb_world.proofs.world.World.object_class.Goals as goal
 

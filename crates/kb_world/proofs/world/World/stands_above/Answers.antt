@@ -1,6 +1,6 @@
 use Rattle.std.proofs.Common.{◌≡◌, ℕ, ◌-◌, List, length, ap, ◌∙◌, arith}
-use Rattle.kb_link.specs.World.{chain_of}
-use Rattle.kb_world.specs.Tables.{stands_at}
+use Rattle.kb_classes.specs.World.{chain_of}
+use Rattle.kb_resolution.specs.Tables.{stands_at}
 use Rattle.kb_world.proofs.ChainPlaces.{stands}
 use Rattle.kb_world.proofs.world.World.stands_above.Goals as goal
 

@@ -1,0 +1,14 @@
+pub mod Places
+pub mod Walks
+pub mod Firsts
+pub mod Named
+pub mod LiteralLaws
+pub mod UniverseTexts
+pub mod UniverseLaws
+pub mod OwnParts
+pub mod UniverseReading
+pub mod UniverseMentions
+pub mod MethodNumbers
+pub mod SlotLaws
+pub mod Filling
+pub mod Placings

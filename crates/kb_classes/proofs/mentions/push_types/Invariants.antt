@@ -1,0 +1,10 @@
+use Rattle.std.proofs.Common.{length}
+use Rattle.kb_classes.specs.Mentions.{IsTextOf}
+use Rattle.kb_classes.proofs.LiteralLaws.{Goes}
+use Rattle.kb_classes.proofs.mentions.push_types.Given as goal
+
+abbrev pub invariant-loop-rest : goal.invariant-loop-rest
+invariant-loop-rest l = Goes IsTextOf l.fn.texts.items l.texts.items l.types l.rest
+
+abbrev pub decreases-loop-rest : goal.decreases-loop-rest
+decreases-loop-rest l = length l.rest

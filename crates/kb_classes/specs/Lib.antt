@@ -1,0 +1,13 @@
+pub mod World
+pub mod Subtypes
+pub mod Rules
+pub mod Split
+pub mod Refusals
+pub mod Names
+pub mod Universe
+pub mod Mentions
+pub mod Methods
+pub mod Slots
+pub mod Initialisers
+pub mod Placing
+pub mod Options

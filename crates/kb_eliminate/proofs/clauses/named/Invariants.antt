@@ -1,6 +1,0 @@
-use Rattle.std.proofs.Common.{take}
-use Rattle.kb_eliminate.specs.Rows.{IsNamed}
-use Rattle.kb_eliminate.proofs.clauses.named.Given as goal
-
-abbrev pub invariant-loop-literal : goal.invariant-loop-literal
-invariant-loop-literal l = IsNamed (take l.literal-index l.literals)

@@ -1,9 +1,0 @@
-use Rattle.std.proofs.Common.{◌≡◌, length}
-use Rattle.kb_eliminate.specs.Base.{IsModelOf}
-use Rattle.kb_eliminate.proofs.complete.model.Given as goal
-
-abbrev pub invariant-loop-before : goal.invariant-loop-before
-invariant-loop-before l = record {
-  count : length l.bits.items ≡ l.before;
-  values : IsModelOf l.bits.items l.trail;
-}

@@ -1,7 +1,0 @@
-use Rattle.std.proofs.Common.{◌≡◌, ◌++◌, map, take, drop}
-use Rattle.kb_eliminate.specs.Forgetting.{only_awake}
-use Rattle.kb_eliminate.proofs.watches.Watches.purge.Given as goal
-
-abbrev pub invariant-loop-list : goal.invariant-loop-list
-invariant-loop-list l =
-    l.list-items ≡ map (only_awake l.pairs) (take l.list-index l.initial.list-items) ++ drop l.list-index l.initial.list-items

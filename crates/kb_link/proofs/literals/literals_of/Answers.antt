@@ -1,5 +1,0 @@
-use Rattle.kb_link.proofs.LiteralLaws.{literals_are}
-use Rattle.kb_link.proofs.literals.literals_of.Goals as goal
-
-pub returns : goal.returns
-returns c = literals_are c.args.classes.now c.in_ok-texts.texts.items c.set_of.result (rw (← c.as_slice.ensures.same) c.in_ok-texts.ensures) c.set_of.ensures.rises c.set_of.ensures.same

@@ -1,7 +1,0 @@
-use Rattle.std.proofs.Common.{◌≡◌, ◌++◌, map, take, Some}
-use Rattle.kb_class.specs.declared.members.MethodInfo.{MethodInfo}
-use Rattle.kb_link.specs.Tables.{method_in}
-use Rattle.kb_link.proofs.methods.with_places.Given as goal
-
-abbrev pub invariant-loop-place : goal.invariant-loop-place
-invariant-loop-place l = map (method_in l.classes) l.after.items ≡ map (method_in l.classes) l.fn.places.items ++ map (λ (m : MethodInfo). Some m) (take l.place l.methods)

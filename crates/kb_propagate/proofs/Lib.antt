@@ -1,0 +1,12 @@
+pub mod Places
+pub mod ClausesLaws
+pub mod CompactLaws
+pub mod FlatLogLaws
+pub mod TrailLaws
+pub mod WatchLaws
+pub mod PairLaws
+pub mod ReorderLaws
+pub mod JustifyLaws
+pub mod BaseLaws
+pub mod BeginLaws
+pub mod ForgetLaws

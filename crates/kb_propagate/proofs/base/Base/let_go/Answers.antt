@@ -1,0 +1,21 @@
+use Rattle.std.proofs.Common.{sym, subst, refl, false, take}
+use Rattle.kb_chain.specs.Literal.{has}
+use Rattle.kb_propagate.specs.Rows.{rows_of}
+use Rattle.kb_propagate.specs.Watches.{pairs_of, Quiet}
+use Rattle.kb_propagate.specs.Base.{IsBase}
+use Rattle.kb_propagate.proofs.ForgetLaws.{IsBase-asleep, Quiet-asleep}
+use Rattle.kb_propagate.proofs.base.Base.let_go.Goals as goal
+
+pub returns : goal.returns
+returns c = (let s = c.args.self.now in record {
+  stands = subst (λ z. IsBase s.formula.now s.entries (rows_of z) (pairs_of z) s.watches.lists.items s.trail false) (sym c.let_go.ensures)
+      (IsBase-asleep s.formula.now s.entries s.clauses s.watches.lists.items s.trail s.whole c.args.number c.requires.stands);
+  ready = record {
+    head = c.requires.ready.head;
+    quiet = subst (λ z. Quiet (rows_of z) (pairs_of z) (has (take s.head s.trail.literals)) (has s.trail.literals)) (sym c.let_go.ensures)
+        (Quiet-asleep s.clauses c.args.number _ _ c.requires.ready.quiet);
+  };
+  trail = refl;
+  entries = refl;
+  formula = refl;
+})

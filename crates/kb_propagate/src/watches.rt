@@ -1,0 +1,151 @@
+//! The lists of watches. Under proof: each clause that wasn't let go is in the lists of its two watched literals.
+ghost use Rattle.std.specs.Prelude.{◌≡◌, ℕ, ◌+◌, ◌*◌, ◌<◌, ◌≤◌, true, [], ◌∷◌, ◌++◌, length, take, map, filter, slice_get, slice_set, vec_len, Some, OnOk, IfOk};
+ghost use Rattle.std.specs.List.{remove_range};
+ghost use Rattle.kb_chain.specs.Literal.{place_of};
+ghost use Rattle.kb_propagate.specs.Watches.{at_literal, AreEmpty};
+ghost use Rattle.kb_propagate.specs.Forgetting.{has_awake_clause, only_awake};
+
+use crate::NoMemory;
+use crate::clauses::Clauses;
+use crate::watch::Watch;
+use kb_chain::Lit;
+use std::alloc::Global;
+use std::marker::Model;
+
+/// The watches at one literal.
+#[derive(Drop)]
+pub struct WatchList {
+    inner: Vec<Watch>,
+}
+
+impl Model for WatchList {
+    ghost use Rattle.std.specs.Prelude.{List};
+    ghost use Rattle.kb_propagate.specs.declared.watch.Watch.{Watch};
+
+    ghost Value = { List Watch };
+
+    ghost view = { λ w. w.inner.items };
+}
+
+impl WatchList {
+    pub fn new(alloc: Global) -> WatchList
+        ensures { result ≡ [] }
+    {
+        WatchList {
+            inner: Vec::new(alloc),
+        }
+    }
+
+    pub fn len(&self) -> usize
+        ensures { result ≡ length self.now }
+    {
+        self.inner.len()
+    }
+
+    /// The watch at a place.
+    pub fn at(&self, place: usize) -> Watch
+        requires { place < length self.now }
+        ensures { slice_get self.now place ≡ Some result }
+    {
+        self.inner[place]
+    }
+
+    /// Puts a watch in the place of another.
+    pub fn put(&mut self, place: usize, watch: Watch)
+        requires { place < length self.old }
+        ensures { self.new ≡ slice_set self.old place watch }
+    {
+        self.inner[place] = watch;
+    }
+
+    pub fn push(&mut self, watch: Watch) -> Result<(), NoMemory>
+        ensures { OnOk result (self.new ≡ self.old ++ watch ∷ []) }
+    {
+        self.inner.push(watch)?;
+        Ok(())
+    }
+
+    pub fn clear(&mut self)
+        ensures { self.new ≡ [] }
+    {
+        self.inner.clear();
+    }
+
+    /// Keeps only the first watches.
+    pub fn truncate(&mut self, kept: usize)
+        ensures { self.new ≡ take kept self.old }
+    {
+        self.inner.truncate(kept);
+    }
+
+    /// Takes the watches between two places out: from `start` up to `end`, which stays.
+    pub fn cut(&mut self, start: usize, end: usize)
+        requires order { start ≤ end }
+        requires inside { end ≤ length self.old }
+        ensures { self.new ≡ remove_range self.old start end }
+    {
+        cut(&mut self.inner, start, end);
+    }
+
+    /// Keeps only the watches of clauses that are awake.
+    fn keep_awake(&mut self, clauses: &Clauses)
+        ensures { self.new ≡ filter (has_awake_clause clauses.now) self.old }
+    {
+        self.inner.retain(|watch| clauses.is_awake(watch.clause));
+    }
+}
+
+/// Takes the watches from `start` up to `end` out.
+fn cut(watches: &mut Vec<Watch>, start: usize, end: usize)
+    requires order { start ≤ end }
+    requires inside { end ≤ vec_len watches.old }
+    ensures { watches.new.items ≡ remove_range watches.old.items start end }
+{
+    let left = watches.len() - (end - start);
+    watches.copy_within(end.., start);
+    watches.truncate(left);
+}
+
+/// The watches by the place of the literal that is watched.
+#[derive(Drop)]
+pub struct Watches {
+    pub lists: Vec<WatchList>,
+    /// Where a list is as long as its watches are taken up; empty otherwise.
+    pub waiting: WatchList,
+}
+
+impl Watches {
+    /// No watches at the literals of the variables up to `vars`.
+    pub fn new(alloc: Global, vars: u32) -> Result<Watches, NoMemory>
+        ensures places { IfOk result (λ w. length w.lists.items ≡ 2 * vars + 2) }
+        ensures lists { IfOk result (λ w. AreEmpty w.lists.items) }
+    {
+        let mut lists = Vec::new(alloc);
+        for _place in 0..2 * vars as usize + 2 {
+            lists.push(WatchList::new(alloc))?;
+        }
+        Ok(Watches {
+            lists,
+            waiting: WatchList::new(alloc),
+        })
+    }
+
+    /// Takes the watches of clauses that are watched no longer out of the lists.
+    pub fn purge(&mut self, clauses: &Clauses)
+        ensures { self.new.lists.items ≡ map (only_awake clauses.now) self.old.lists.items }
+    {
+        for list in self.lists.iter_mut() {
+            list.keep_awake(clauses);
+        }
+    }
+}
+
+/// Puts a watch into the list of a literal.
+pub fn put_watch(lists: &mut Vec<WatchList>, literal: Lit, watch: Watch) -> Result<(), NoMemory>
+    requires { place_of literal < length lists.old.items }
+    ensures ok { OnOk result (lists.new.items ≡ slice_set lists.old.items (place_of literal) (at_literal lists.old.items literal ++ watch ∷ [])) }
+{
+    let list = &mut lists[literal.place()];
+    list.push(watch)?;
+    Ok(())
+}
