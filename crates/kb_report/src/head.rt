@@ -1,4 +1,8 @@
 //! The three lines of a report's head.
+ghost use Rattle.std.specs.Prelude.{◌↔◌, ◌≡◌, IsTrue, IfOk};
+ghost use Rattle.kb_grammar.specs.Lines.{IsRead};
+ghost use Rattle.kb_report.specs.Words.{SpellsTargetLine, SpellsInit, SpellsSettings};
+ghost use Rattle.kb_report_text.specs.Report.{title_line};
 
 use crate::NoMemory;
 use kb_grammar::{behind, first_part, is_line, last_number, number_before};
@@ -18,15 +22,18 @@ pub(crate) struct Settings {
 }
 
 /// Whether it is the first line of a report.
-pub(crate) fn is_title(line: &[u8]) -> bool {
+#[tactic(auto, unfolding(kb_report_text::specs::Report::title_line))]
+pub(crate) fn is_title(line: &[u8]) -> bool
+    ensures { IsTrue result ↔ (line.now ≡ title_line) }
+{
     is_line(line, b"kiasan report 1")
 }
 
 /// The target that the line names.
-pub(crate) fn read_target_line(
-    alloc: Global,
-    line: &[u8],
-) -> Result<Option<Held<Target>>, NoMemory> {
+#[tactic(auto, unfolding(kb_report_text::specs::Report::target_line))]
+pub(crate) fn read_target_line(alloc: Global, line: &[u8]) -> Result<Option<Held<Target>>, NoMemory>
+    ensures { IfOk result (IsRead SpellsTargetLine line.now) }
+{
     let Some(text) = behind(line, b"target ") else {
         return Ok(None);
     };
@@ -52,7 +59,10 @@ pub(crate) fn read_settings(line: &[u8]) -> Option<Settings> {
     })
 }
 
-fn init_named(name: &[u8]) -> Option<Init> {
+#[tactic(auto, unfolding(kb_report_text::specs::Report::init_name))]
+fn init_named(name: &[u8]) -> Option<Init>
+    ensures { IsRead SpellsInit name.now result }
+{
     if is_line(name, b"lazy") {
         return Some(Init::Lazy);
     }

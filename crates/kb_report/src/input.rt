@@ -1,4 +1,7 @@
 //! What stands at the end of a path: the input that it carries, or a log.
+ghost use Rattle.std.specs.Prelude.{IfOk};
+ghost use Rattle.kb_grammar.specs.Lines.{IsRead};
+ghost use Rattle.kb_report.specs.Words.{SpellsObject, SpellsValues};
 
 use crate::NoMemory;
 use crate::block::{Block, Reader, Stage};
@@ -81,7 +84,9 @@ pub(crate) fn take_in(
 }
 
 // An object of the input: its type and its values.
-fn read_object(alloc: Global, text: &[u8]) -> Result<Option<Object>, NoMemory> {
+fn read_object(alloc: Global, text: &[u8]) -> Result<Option<Object>, NoMemory>
+    ensures { IfOk result (IsRead SpellsObject text.now) }
+{
     let (word, rest) = first_part(text, b' ');
     let Some(kind) = read_exact(alloc, word)? else {
         return Ok(None);
@@ -93,7 +98,9 @@ fn read_object(alloc: Global, text: &[u8]) -> Result<Option<Object>, NoMemory> {
 }
 
 // The values, each with a space before it.
-fn read_values(alloc: Global, text: &[u8]) -> Result<Option<Row<Value>>, NoMemory> {
+fn read_values(alloc: Global, text: &[u8]) -> Result<Option<Row<Value>>, NoMemory>
+    ensures { IfOk result (IsRead SpellsValues text.now) }
+{
     let mut values = Row::new(alloc);
     let mut rest = text;
     while let Some(words) = behind(rest, b" ") {

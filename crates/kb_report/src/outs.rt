@@ -1,4 +1,7 @@
 //! The first line of a leaf, and what an ended path states: set and new lines.
+ghost use Rattle.std.specs.Prelude.{IfOk};
+ghost use Rattle.kb_grammar.specs.Lines.{IsRead};
+ghost use Rattle.kb_report.specs.Words.{SpellsOuts};
 
 use crate::NoMemory;
 use crate::block::{Block, Reader, Stage};
@@ -246,7 +249,9 @@ pub(crate) fn take_new(
 }
 
 // The values, each with a space before it.
-fn read_outs(alloc: Global, text: &[u8]) -> Result<Option<Row<Out>>, NoMemory> {
+fn read_outs(alloc: Global, text: &[u8]) -> Result<Option<Row<Out>>, NoMemory>
+    ensures { IfOk result (IsRead SpellsOuts text.now) }
+{
     let mut values = Row::new(alloc);
     let mut rest = text;
     while let Some(words) = behind(rest, b" ") {

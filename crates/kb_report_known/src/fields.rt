@@ -6,9 +6,9 @@ use kb_class::ClassId;
 use kb_names::{ExactType, Name};
 use kb_path_words::Text;
 use kb_report_text::{NamedWorld, write_field};
-use kb_rows::Row;
 use kb_semantics::{FieldSlot, World};
 use std::alloc::Global;
+use std::collections::BTreeMap;
 
 /// A field with a slot: the class that declares it, and the slot's number. In an object of each class below it has that number.
 #[derive(Clone, Copy, PartialEq, Eq)]
@@ -22,8 +22,8 @@ pub struct FieldAt {
 pub struct Fields<'a> {
     world: &'a World,
     numbers: IndexMap<Vec<u8>, FieldAt>,
-    // Of each class how many slots an object of it or of one below it has at most; 0 for a class that declares none.
-    most: Row<usize>,
+    // Of each class how many slots an object of it or of one below it has at most.
+    most: BTreeMap<u32, usize>,
 }
 
 impl<'a> Fields<'a> {
@@ -31,11 +31,11 @@ impl<'a> Fields<'a> {
     pub fn of(alloc: Global, world: &'a World) -> Result<Fields<'a>, NoMemory> {
         let named = NamedWorld::of(alloc, world)?;
         let mut numbers = IndexMap::new(alloc);
-        let mut most = zeros(alloc, world)?;
+        let mut most = BTreeMap::new(alloc);
         let mut number: u32 = 0;
         while let Some(class) = world.class_at(ClassId(number)) {
             let slots = world.slots_named(class.name());
-            note_counts(slots, &mut most);
+            note_counts(slots, &mut most)?;
             add_fields(alloc, &named, ClassId(number), slots, &mut numbers)?;
             let Some(next) = number.checked_add(1) else {
                 return Err(NoMemory);
@@ -82,7 +82,7 @@ impl<'a> Fields<'a> {
 
     /// How many slots an object has at most that has the field.
     pub fn most(&self, field: FieldAt) -> usize {
-        match self.most.as_slice().get(field.class.0 as usize) {
+        match self.most.get(&field.class.0) {
             Some(most) => *most,
             None => 0,
         }
@@ -105,37 +105,24 @@ fn declares(slots: &[FieldSlot], field: FieldAt) -> bool {
     }
 }
 
-// A 0 for each class.
-fn zeros(alloc: Global, world: &World) -> Result<Row<usize>, NoMemory> {
-    let mut zeros = Row::new(alloc);
-    let mut number: u32 = 0;
-    while let Some(_) = world.class_at(ClassId(number)) {
-        zeros.push(0)?;
-        let Some(next) = number.checked_add(1) else {
-            return Err(NoMemory);
-        };
-        number = next;
-    }
-    Ok(zeros)
-}
-
 // Notes how many slots an object has, for each class that declares one of them.
-fn note_counts(slots: &[FieldSlot], most: &mut Row<usize>) {
+fn note_counts(slots: &[FieldSlot], most: &mut BTreeMap<u32, usize>) -> Result<(), NoMemory> {
     for slot in slots {
-        note_count(slot.class, slots.len(), most);
+        note_count(slot.class, slots.len(), most)?;
     }
+    Ok(())
 }
 
-fn note_count(class: ClassId, count: usize, most: &mut Row<usize>) {
-    let place = class.0 as usize;
-    match most.as_slice().get(place) {
-        Some(before) => {
-            if *before < count {
-                most.set(place, count);
-            }
-        }
-        None => (),
+fn note_count(
+    class: ClassId,
+    count: usize,
+    most: &mut BTreeMap<u32, usize>,
+) -> Result<(), NoMemory> {
+    let most = most.entry(class.0)?.or_insert(0);
+    if *most < count {
+        *most = count;
     }
+    Ok(())
 }
 
 // Adds those of the slots that the class declares.
