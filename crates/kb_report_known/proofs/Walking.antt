@@ -1,10 +1,10 @@
 -- The walk over tasks meets the terms that the definition meets, in its order, and ends.
-use Rattle.std.proofs.Common.{◌≡◌, ◌≢◌, ℕ, zero, suc, ◌+◌, ◌^◌, ◌<◌, ◌≤◌, ◌==◌, Bool, true, false, cond, List, [], ◌∷◌, ◌++◌, length, length-append, append_assoc, append-nil, Option, Some, None, refl, sym, ap, subst, ◌∙◌, arith, reverse, if◌then◌else◌, MatchOption}
-use Rattle.std.specs.Prelude.{slice_get, nat_lt, fold}
-use Rattle.std.specs.List.{list_any}
+use Rattle.std.proofs.Common.{◌≡◌, ◌≢◌, ℕ, zero, suc, ◌+◌, ◌^◌, ◌<◌, ◌≤◌, ◌==◌, Bool, true, false, List, [], ◌∷◌, ◌++◌, length, length-append, append_assoc, append-nil, Option, Some, None, refl, sym, ap, subst, ◌∙◌, arith, reverse, if◌then◌else◌}
+use Rattle.std.specs.Prelude.{slice_get, nat_lt, fold, ◌||◌}
 use Rattle.std.specs.Option.{option_map_or}
 use Rattle.std.proofs.lemmas.Bool.{lt-ltb, ltb-true, ltb-false, eqb-true, eqb-false}
 use Rattle.std.proofs.lemmas.List.{reverse-append}
+use Rattle.std.proofs.lemmas.List.Folds.{list_any-append}
 use Rattle.std.proofs.lemmas.List.Sums.{fold-append}
 use Rattle.std.proofs.Math.Nat.{one-le-pow, pow-le-pow_right}
 use Rattle.std.proofs.lemmas.Grind.{pow_more}
@@ -19,25 +19,19 @@ use Rattle.kb_report_known.specs.declared.terms.Task.TheVariants.{Enter, Meet}
 
 -- ---- the numbers below one
 
-any-++ : (p : ℕ → Bool) (xs : List ℕ) (y : ℕ) → list_any p (xs ++ y ∷ []) ≡ (if list_any p xs then true else p y)
-any-++ p [] y = go (p y)
-  where
-    go : (b : Bool) → (if b then true else false) ≡ b
-    go true = refl
-    go false = refl
-any-++ p (x ∷ xs) y = go (p x) (any-++ p xs y)
-  where
-    go : (b : Bool) → list_any p (xs ++ y ∷ []) ≡ (if list_any p xs then true else p y) → (if b then true else list_any p (xs ++ y ∷ [])) ≡ (if (if b then true else list_any p xs) then true else p y)
-    go true e = refl
-    go false e = e
-
 -- a number is one of those below n where it is below n
 pub below_has : (n t : ℕ) → has_number (numbers_below n) t ≡ nat_lt t n
 below_has zero t = refl
-below_has (suc n) t = any-++ (λ x. x == t) (numbers_below n) n ∙ ap (λ (b : Bool). if b then true else n == t) (below_has n t) ∙ go (nat_lt t n) refl (n == t) refl
+below_has (suc n) t = list_any-append (λ x. x == t) (numbers_below n) (n ∷ []) ∙ ap (λ (b : Bool). b || ((n == t) || false)) (below_has n t) ∙ go (nat_lt t n) refl (n == t) refl
   where
-    go : (a : Bool) → nat_lt t n ≡ a → (b : Bool) → (n == t) ≡ b → (if nat_lt t n then true else n == t) ≡ nat_lt t (suc n)
-    go a p b q = bool (arith, p, q)
+    last : (b : Bool) → nat_lt t (suc n) ≡ b → n ≤ t → (n ≡ t → ⊥) → false ≡ nat_lt t (suc n)
+    last true e low other = absurd (other (let below : t < suc n = ltb-true t (suc n) e in omega (arith, low, below)))
+    last false e low other = sym e
+
+    go : (a : Bool) → nat_lt t n ≡ a → (b : Bool) → (n == t) ≡ b → (nat_lt t n || ((n == t) || false)) ≡ nat_lt t (suc n)
+    go true p b q = rw p (sym (lt-ltb t (suc n) (let below : t < n = ltb-true t n p in omega (arith, below))))
+    go false p true q = rw (p, q) (sym (lt-ltb t (suc n) (let same : n ≡ t = eqb-true n t q in omega (arith, same))))
+    go false p false q = rw (p, q) (last (nat_lt t (suc n)) refl (ltb-false t n p) (eqb-false n t q))
 
 -- the number at a place is that place
 length_below : (n : ℕ) → length (numbers_below n) ≡ n

@@ -118,9 +118,9 @@ fn note_count(
     count: usize,
     most: &mut BTreeMap<u32, usize>,
 ) -> Result<(), NoMemory> {
-    let most = most.entry(class.0)?.or_insert(0);
-    if *most < count {
-        *most = count;
+    let greatest = most.entry(class.0)?.or_insert(0);
+    if *greatest < count {
+        *greatest = count;
     }
     Ok(())
 }
