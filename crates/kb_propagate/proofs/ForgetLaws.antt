@@ -15,7 +15,8 @@ use Rattle.kb_propagate.specs.Watches.{Pair, pair_of, pairs_of, Quiet, watches_c
 use Rattle.kb_propagate.specs.Forgetting as forgetting
 use Rattle.kb_propagate.specs.Forgetting.{is_awake, has_awake_clause, only_awake, AreLeftOrEmpty}
 use Rattle.kb_propagate.specs.Store.{IsJustified, IsNoReason}
-use Rattle.kb_propagate.specs.Base.{IsBase}
+use Rattle.kb_propagate.specs.Base.{IsBase, Stands, IsReady, Forgets}
+use Rattle.kb_propagate.specs.declared.base.Base.{Base}
 use Rattle.kb_propagate.proofs.WatchLaws.{blocked_row}
 use Rattle.kb_propagate.proofs.Places.{at_set, at_set_same, at_set_other, at_inside, at_mapped}
 use Rattle.kb_propagate.proofs.PairLaws.{is_awake-at, rows_set, pairs_set}
@@ -305,3 +306,23 @@ AreLeftOrEmpty-deleted clauses n = go (slice_get clauses n) refl
             | inr d ↦ inl (at_set_other (rows_of clauses) n [] k d)
           ];
         })
+
+pub Forgets-refl : (b : Base) → Stands b → IsReady b → Forgets b b
+Forgets-refl b stands ready = record {
+  stands = stands;
+  ready = ready;
+  trail = refl;
+  rows = AreLeftOrEmpty-refl (rows_of b.clauses);
+  entries = refl;
+  formula = refl;
+}
+
+pub Forgets-trans : (a b c : Base) → Forgets a b → Forgets b c → Forgets a c
+Forgets-trans a b c g h = record {
+  stands = h.stands;
+  ready = h.ready;
+  trail = h.trail ∙ g.trail;
+  rows = AreLeftOrEmpty-trans (rows_of a.clauses) (rows_of b.clauses) (rows_of c.clauses) g.rows h.rows;
+  entries = h.entries ∙ g.entries;
+  formula = h.formula ∙ g.formula;
+}

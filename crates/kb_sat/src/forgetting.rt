@@ -1,6 +1,6 @@
 //! Clause database reduction: learned clauses of little use are let go (as in Glucose: Audemard and Simon, 2009). Which ones is
 //! free; that nothing relies on them any longer is under proof.
-ghost use Rattle.std.specs.Prelude.{◌≡◌, ◌<◌, length, OnOk};
+ghost use Rattle.std.specs.Prelude.{◌<◌, length, OnOk};
 ghost use Rattle.kb_propagate.specs.Rows.{rows_of};
 ghost use Rattle.kb_propagate.specs.Base.{Stands, IsReady, Forgets};
 ghost use Rattle.kb_sat.specs.Solver.{Equipped};

@@ -5,18 +5,11 @@ use Rattle.kb_propagate.specs.Rows.{rows_of}
 use Rattle.kb_propagate.specs.Watches.{pairs_of, Quiet}
 use Rattle.kb_propagate.specs.Base.{IsBase}
 use Rattle.kb_propagate.specs.Forgetting.{AreLeftOrEmpty}
-use Rattle.kb_propagate.proofs.ForgetLaws.{IsBase-deleted, Quiet-deleted, AreLeftOrEmpty-refl, AreLeftOrEmpty-deleted}
+use Rattle.kb_propagate.proofs.ForgetLaws.{IsBase-deleted, Quiet-deleted, AreLeftOrEmpty-deleted, Forgets-refl}
 use Rattle.kb_propagate.proofs.base.Base.delete.Goals as goal
 
 pub returns-then-is_reason-clause-forgets : goal.returns-then-is_reason-clause-forgets
-returns-then-is_reason-clause-forgets c = record {
-  stands = c.requires.stands;
-  ready = c.requires.ready;
-  trail = refl;
-  rows = AreLeftOrEmpty-refl (rows_of c.args.self.now.clauses);
-  entries = refl;
-  formula = refl;
-}
+returns-then-is_reason-clause-forgets c = Forgets-refl c.args.self.now c.requires.stands c.requires.ready
 
 pub returns-then-is_reason-clause-clauses : goal.returns-then-is_reason-clause-clauses
 returns-then-is_reason-clause-clauses c = inr (OnTrue_at c.if-is_reason.true c.is_reason.ensures.reason, refl)
