@@ -6,6 +6,6 @@ use Rattle.kb_drive.proofs.follow.begin.Goals as goal
 
 pub returns : goal.returns
 returns c =
-    let held : c.get.result.now ≡ c.args.piece = c.get.ensures ∙ c.valued.view_is ∙ c.in_ok-valued.ensures in
+    let held : c.get.result.now ≡ c.args.piece = c.get.ensures ∙ c.in_ok-valued.ensures in
     c.waits_at.ensures ∙ ap (λ (p : Piece). waits_at p c.in_ok-choices.choices) c.in_ok-valued.ensures
     ∙ ap (waits_at c.args.piece) (c.in_ok-choices.ensures ∙ ap (λ (p : Piece). choices_at c.args.world.now c.args.bounds.now p.state) held)
