@@ -56,6 +56,7 @@ impl<T: Drop> Trail<T> {
         ensures entry { OnOk result (self.new ≡ with_entry self.old cells.old.items place value) }
         ensures marks { (mark : ℕ) → mark ≤ length self.old → undone self.new cells.new.items mark ≡ undone self.old cells.old.items mark }
         ensures front { take (length self.old) self.new ≡ self.old }
+        ensures places { Reaches cells.old.items self.old → Reaches cells.new.items self.new }
         ensures count { length cells.new.items ≡ length cells.old.items }
         ensures same_cells { OnErr result (cells.new.items ≡ cells.old.items) }
         ensures same_trail { OnErr result (self.new ≡ self.old) }
