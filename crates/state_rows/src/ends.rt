@@ -63,9 +63,9 @@ fn path_of(alloc: Global, state: &SymState, word: &str) -> RowResult<Held<Path>>
 
 /// The path of a state that has met no conditions.
 fn open_path(state: &SymState) -> RowResult<Path> {
-    if !state.conditions().is_empty() {
+    let [] = state.conditions() else {
         return Err(RowStop::Malformed);
-    }
+    };
     match state.path(&[], Leaf::Open) {
         Ok(path) => Ok(path),
         Err(_) => Err(RowStop::NoMemory),
