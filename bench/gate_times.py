@@ -8,8 +8,8 @@ has ended: its kind, its crate and its seconds. The table is made from that log,
 still goes on (--read). Processes shorter than the interval are missed, and of each other one the time behind the last look, so
 the sum is a little below the whole processor time, which is printed beside it.
 
-Where an earlier run on this machine passed a crate, the gate takes that, so its row is missing: `-- rt ci --anew` does all
-anew.
+With a toolchain that keeps what it has proved (rattle-kit-13f; 13b does not), the gate takes each crate that an earlier run on
+this machine passed, so its row is missing: `-- rt ci --anew` does all anew.
 
 Below the table stand the processor minutes for a thousand lines of code, definitions and proofs, the crates whose proof takes
 the longest, and the longest chain of proofs, each crate of it above the one before, up to kiasan_main: what no number of

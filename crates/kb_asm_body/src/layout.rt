@@ -111,9 +111,7 @@ fn note(
         return Ok(());
     }
     let key = key_of(alloc, label.as_slice())?;
-    let Ok(_) = labels.insert(key, at) else {
-        return Err(NoMemory);
-    };
+    labels.insert(key, at)?;
     Ok(())
 }
 

@@ -102,9 +102,7 @@ fn add_new(alloc: Global, names: &mut IndexSet<Name>, name: &Name) -> Result<(),
     ensures { OnOk result (AddsNewName names.old names.new name.now) }
 {
     let key = name.copied(alloc)?;
-    let Ok(_) = names.insert(key) else {
-        return Err(NoMemory);
-    };
+    names.insert(key)?;
     Ok(())
 }
 

@@ -26,9 +26,7 @@ pub fn placings_of(
     let mut tables = Vec::new(alloc);
     for place in places {
         let table = placing_at(alloc, classes, *place)?;
-        let Ok(()) = tables.push(table) else {
-            return Err(NoMemory);
-        };
+        tables.push(table)?;
     }
     Ok(tables)
 }
@@ -75,9 +73,7 @@ fn placing_of(
     requires { IsLaidOut items.now size }
     ensures { IfOk result (λ table. (at : ℕ) → placed_at table at ≡ place_of_offset items.now at) }
 {
-    let Ok(mut table) = vec![in alloc; None; size as usize] else {
-        return Err(NoMemory);
-    };
+    let mut table = vec![in alloc; None; size as usize]?;
     let mut place = 0;
     let mut rest = items;
     while let [item, others @ ..] = rest {

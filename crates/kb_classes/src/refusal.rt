@@ -15,7 +15,8 @@ pub enum LinkRefusal {
     TwoMembers(u32, u16),
     /// Two classes have the name, or one has that of a platform class.
     Twice(Name),
-    /// No class has the name of a superclass or interface.
+    /// No class has the name of a superclass or interface, or of the class, or the class of an array's elements, of a new,
+    /// anewarray, checkcast or instanceof.
     Missing(Name),
     /// The class is one of its own superclasses and interfaces.
     Circle(Name),

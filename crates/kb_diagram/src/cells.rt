@@ -113,9 +113,7 @@ fn put_at(
         object: object as usize,
         number: number as usize,
     };
-    let Ok(_) = cells.insert(slot, cell) else {
-        return Err(NoMemory);
-    };
+    cells.insert(slot, cell)?;
     Ok(())
 }
 

@@ -34,9 +34,7 @@ pub(crate) fn verdicts_of(alloc: Global, pool: &[PoolEntry]) -> Result<Vec<Verdi
     let mut verdicts = Vec::new(alloc);
     for entry in pool {
         let verdict = entry_verdict(alloc, entry)?;
-        let Ok(()) = verdicts.push(verdict) else {
-            return Err(NoMemory);
-        };
+        verdicts.push(verdict)?;
     }
     Ok(verdicts)
 }

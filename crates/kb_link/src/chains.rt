@@ -37,9 +37,7 @@ fn all_chains(alloc: Global, classes: &Classes, order: &Order) -> Result<Vec<Row
     let mut chains = Vec::new(alloc);
     for number in 0..order.len() as u32 {
         let chain = chain_from(alloc, parents.as_slice(), number, order.rank(number) + 1)?;
-        let Ok(()) = chains.push(chain) else {
-            return Err(NoMemory);
-        };
+        chains.push(chain)?;
     }
     Ok(chains)
 }

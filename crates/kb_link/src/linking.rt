@@ -76,7 +76,7 @@ fn numbers_in(alloc: Global, classes: &[LoadedClass]) -> Result<Held<Numbers>, N
     ensures { IfOk result (AreNumbered classes.now) }
 {
     let numbers = numbers_of(alloc, classes)?;
-    Ok(Held::new(alloc, numbers)?)
+    Held::new(alloc, numbers)
 }
 
 // The world of these classes, whose members have these numbers.

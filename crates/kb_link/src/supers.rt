@@ -20,9 +20,7 @@ pub(crate) fn supers_of(
     let mut supers = Vec::new(alloc);
     for low in 0..order.len() as u32 {
         let marks = marks_of(alloc, order, low)?;
-        let Ok(()) = supers.push(marks) else {
-            return Err(NoMemory);
-        };
+        supers.push(marks)?;
     }
     Ok(supers)
 }

@@ -60,9 +60,7 @@ fn number_all(
     for class in classes {
         let next = number_behind(first, class.methods())?;
         let own = class_numbers(alloc, class, first, texts)?;
-        let Ok(()) = numbers.push(own) else {
-            return Err(NoMemory);
-        };
+        numbers.push(own)?;
         first = next;
     }
     Ok(numbers)

@@ -43,8 +43,6 @@ pub fn add_place(table: &mut HashMap<Pair, u32>, pair: Pair, place: u32) -> Resu
     if table.contains_key(&pair) {
         return Ok(());
     }
-    let Ok(_) = table.insert(pair, place) else {
-        return Err(NoMemory);
-    };
+    table.insert(pair, place)?;
     Ok(())
 }

@@ -40,9 +40,7 @@ fn text_row(alloc: Global, pool: &[PoolEntry], texts: &mut Texts) -> Result<Vec<
     let mut row = Vec::new(alloc);
     for entry in pool {
         let number = entry_text(alloc, entry, texts)?;
-        let Ok(()) = row.push(number) else {
-            return Err(NoMemory);
-        };
+        row.push(number)?;
     }
     Ok(row)
 }

@@ -179,13 +179,9 @@ fn add_type(
     texts.tell_distinct();
     add_names(alloc, kind, texts)?;
     let first = add_parts(&mut types.parts, texts, kind)?;
-    let Ok(_) = types.ends.insert(first, number) else {
-        return Err(NoMemory);
-    };
-    match types.seen.insert(number, first) {
-        Ok(_) => Ok(()),
-        Err(_) => Err(NoMemory),
-    }
+    types.ends.insert(first, number)?;
+    types.seen.insert(number, first)?;
+    Ok(())
 }
 
 /// Adds the types of these methods, beside which their pairs stand.

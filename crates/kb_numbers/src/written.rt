@@ -43,9 +43,7 @@ fn written_pairs(
     let mut pairs = Vec::new(alloc);
     for method in methods {
         let pair = written_pair(alloc, method, texts)?;
-        let Ok(()) = pairs.push(pair) else {
-            return Err(NoMemory);
-        };
+        pairs.push(pair)?;
     }
     Ok(pairs)
 }

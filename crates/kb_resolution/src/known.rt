@@ -57,9 +57,7 @@ pub(crate) fn class_sought(
         return Ok(*told);
     }
     let told = class_of(linked, of);
-    let Ok(_) = classes.insert(text, told) else {
-        return Err(NoMemory);
-    };
+    classes.insert(text, told)?;
     Ok(told)
 }
 
@@ -76,9 +74,7 @@ pub(crate) fn is_left_out(
         return Ok(*told);
     }
     let told = has_left_out(kind);
-    let Ok(_) = left_out.insert(text, told) else {
-        return Err(NoMemory);
-    };
+    left_out.insert(text, told)?;
     Ok(told)
 }
 

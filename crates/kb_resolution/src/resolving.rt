@@ -35,9 +35,7 @@ pub fn rows_of(alloc: Global, linked: &Linked) -> Result<Vec<Row<Resolved>>, NoM
     let mut rows = Vec::new(alloc);
     for number in 0..linked.class_count() {
         let row = row_of(alloc, linked, numbers, slots.as_slice(), number)?;
-        let Ok(()) = rows.push(row) else {
-            return Err(NoMemory);
-        };
+        rows.push(row)?;
     }
     Ok(rows)
 }

@@ -52,9 +52,7 @@ fn tables_of(
             firsts.as_slice(),
             ClassId(number),
         )?;
-        let Ok(()) = tables.push(table) else {
-            return Err(NoMemory);
-        };
+        tables.push(table)?;
     }
     Ok(tables)
 }
@@ -67,9 +65,7 @@ fn firsts_of(alloc: Global, linked: &Linked) -> Result<Vec<u32>, NoMemory>
     let mut firsts = Vec::new(alloc);
     let mut first = 0;
     for number in 0..linked.class_count() {
-        let Ok(()) = firsts.push(first) else {
-            return Err(NoMemory);
-        };
+        firsts.push(first)?;
         first = number_behind(first, linked.class_of(ClassId(number)).methods());
     }
     Ok(firsts)

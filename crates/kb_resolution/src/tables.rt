@@ -30,9 +30,7 @@ pub(crate) fn slot_tables(
     let mut tables = Vec::new(alloc);
     for number in 0..linked.class_count() {
         let table = slot_table(alloc, linked, numbers, ClassId(number))?;
-        let Ok(()) = tables.push(table) else {
-            return Err(NoMemory);
-        };
+        tables.push(table)?;
     }
     Ok(tables)
 }

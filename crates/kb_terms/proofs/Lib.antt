@@ -1,4 +1,5 @@
 pub mod Computing
+pub mod Cuts
 pub mod Entries
 pub mod Equality
 pub mod Finding

@@ -1,3 +1,4 @@
+pub mod Cuts
 pub mod Numbering
 pub mod Op
 pub mod Terms

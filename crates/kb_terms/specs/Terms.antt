@@ -105,6 +105,10 @@ term_with nodes node = option_map (λ (i : ℕ). record { 0 = i }) (position ((s
 abbrev pub interned : List Node → Node → List Node × TermId
 interned nodes node = option_map_or (λ t. (nodes, t)) (term_with nodes node) (nodes ++ node ∷ [], record { 0 = length nodes })
 
+-- the pool with just its first so many terms, and so with the variables that are among them
+abbrev pub cut_pool : List Node → ℕ → List Node
+cut_pool nodes terms = take terms nodes
+
 -- ---- values
 
 -- the entry of a list of ints, 0 past its end

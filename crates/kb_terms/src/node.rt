@@ -1,4 +1,7 @@
 //! Terms and their nodes.
+ghost use Rattle.std.specs.Prelude.{◌≡◌};
+ghost use Rattle.kb_terms.specs.Terms.{is_variable};
+
 use crate::op::Op;
 
 /// The number of a term in its pool: its place among the pool's nodes, from 0.
@@ -19,4 +22,13 @@ pub enum Node {
     Const(i32),
     Var(u32, VarKind),
     Op(Op, TermId, Option<TermId>),
+}
+
+impl Node {
+    // Whether it is a variable.
+    pub(crate) fn is_variable(self) -> bool
+        ensures { result ≡ is_variable self }
+    {
+        matches!(self, Node::Var(..))
+    }
 }

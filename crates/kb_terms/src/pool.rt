@@ -3,7 +3,7 @@ ghost use Rattle.std.specs.Prelude.{◌≡◌, ◌+◌, ◌<◌, ◌≤◌, ◌^
 ghost use Rattle.std.specs.Option.{ForSome};
 ghost use Rattle.kb_terms.specs.declared.node.Node.TheVariants.{Const, Var};
 ghost use Rattle.kb_terms.specs.Op.{op_value};
-ghost use Rattle.kb_terms.specs.Terms.{IsTerm, node_at, is_variable, variables_of, AreOperands, constant_at, second_constant, int_at, made_node, NodeFits, IsPool, Extends, HasNode, term_with, value_of, operand_value, values, node_value, AreFirstValues, CanCompute};
+ghost use Rattle.kb_terms.specs.Terms.{IsTerm, node_at, is_variable, variables_of, AreOperands, constant_at, second_constant, int_at, made_node, NodeFits, IsPool, Extends, HasNode, term_with, value_of, operand_value, values, node_value, AreFirstValues, CanCompute, cut_pool};
 
 use crate::NoMemory;
 use crate::node::{Node, TermId, VarKind};
@@ -55,6 +55,14 @@ impl Pool {
             nodes,
             variables: self.variables,
         })
+    }
+
+    /// How many terms there are; they are numbered from 0.
+    pub fn terms(&self) -> u32
+        ensures count { result ≡ length self.now }
+        ensures formed { IsPool self.now }
+    {
+        self.nodes.len() as u32
     }
 
     /// How many variables there are; they are numbered from 0.
@@ -151,6 +159,20 @@ impl Pool {
         Some(TermId(place as u32))
     }
 
+    /// Takes all terms away but the first so many, with the variables among those that go. It takes no memory, and time in
+    /// proportion to what goes.
+    pub fn cut_to(&mut self, terms: u32)
+        requires { terms ≤ length self.old }
+        ensures front { self.new ≡ cut_pool self.old terms }
+        ensures terms { length self.new ≡ terms }
+        ensures extends { Extends self.new self.old }
+        ensures formed { IsPool self.new }
+    {
+        let left = terms as usize;
+        self.variables -= variables_among(&self.nodes.as_slice()[left..]);
+        self.nodes.truncate(left);
+    }
+
     // The term of a node that is no variable, which is added unless it is there.
     fn intern(&mut self, node: Node) -> Result<TermId, NoMemory>
         requires fits { NodeFits self.old node }
@@ -178,8 +200,8 @@ impl Pool {
     }
 
     /// Adds the values of the terms behind those that `computed` has, which are those of the first terms, where each variable has
-    /// the entry of `inputs` at its number, and 0 past its end. It takes time in proportion to what it adds. Refused for want of
-    /// memory alone: then some values may have been added.
+    /// the entry of `inputs` at its number, and 0 past its end. It takes time in proportion to what it adds. Refused only
+    /// where memory runs out: then some values may have been added.
     pub fn extend_values(&self, inputs: &[i32], computed: &mut Vec<i32>) -> Result<(), NoMemory>
         requires { AreFirstValues inputs.now self.now computed.old.items }
         ensures all { OnOk result (computed.new.items ≡ values inputs.now self.now) }
@@ -220,6 +242,14 @@ pub(crate) fn node_of(nodes: &[Node], term: TermId) -> Node
     ensures { node_at nodes.now term ≡ Some result }
 {
     nodes[term.0 as usize]
+}
+
+// How many of these nodes are variables.
+fn variables_among(nodes: &[Node]) -> u32
+    requires { length nodes.now < 2 ^ 32 }
+    ensures { result ≡ variables_of nodes.now }
+{
+    nodes.iter().filter(|node| node.is_variable()).count() as u32
 }
 
 // The values of the terms with these nodes, in order.

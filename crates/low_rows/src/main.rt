@@ -14,6 +14,7 @@ mod orders;
 mod readers;
 mod steps;
 mod told;
+mod trails;
 mod words;
 
 use endings::{append_bounds, append_ending};
@@ -27,6 +28,7 @@ use readers::append_reading;
 use std::alloc::Global;
 use std::io;
 use std::process::ExitCode;
+use trails::append_trail;
 
 /// Each row is answered by itself.
 #[derive(Drop)]
@@ -74,6 +76,7 @@ fn append_answer(alloc: Global, row: &str, into: &mut Vec<u8>) -> RowResult<()> 
         "bounds" => append_bounds(alloc, asked, into),
         "row" => append_list(alloc, asked, into),
         "held" => append_held(alloc, asked, into),
+        "trail" => append_trail(alloc, asked, into),
         _ => Err(RowStop::Malformed),
     }
 }

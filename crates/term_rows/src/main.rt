@@ -6,6 +6,7 @@
 #![tactic(auto)]
 
 mod asking;
+mod cuts;
 mod pools;
 mod questions;
 mod subjects;

@@ -34,7 +34,8 @@ fn query_of(alloc: Global, text: &str) -> RowResult<Held<Query>> {
     }
 }
 
-fn append_node(pool: &Pool, term: TermId, into: &mut String) -> RowResult<()> {
+/// Appends the number and the node of a term.
+pub fn append_node(pool: &Pool, term: TermId, into: &mut String) -> RowResult<()> {
     let term = known(pool, term)?;
     append_word("", term.0, into)?;
     into.push_str(" is ")?;

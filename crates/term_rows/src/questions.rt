@@ -1,6 +1,7 @@
 //! Which question a row asks.
 
 use crate::asking::{append_alike, append_ask, append_computes, append_values};
+use crate::cuts::append_cuts;
 use crate::pools::{append_applied, append_chain, append_numbers, append_pool};
 use crate::subjects::Subjects;
 use crate::telling::append_told;
@@ -41,6 +42,7 @@ fn append_of_terms(
         "apply" => append_applied(alloc, words, into),
         "chain" => append_chain(alloc, words, into),
         "numbers" => append_numbers(alloc, words, into),
+        "cuts" => append_cuts(alloc, words, into),
         "size" => append_size(formula, into),
         "clauses" => append_clauses(formula, words, into),
         _ => Err(RowStop::Malformed),

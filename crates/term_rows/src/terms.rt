@@ -4,7 +4,7 @@ ghost use Rattle.kb_terms.specs.Terms.{IsTerm};
 
 use kb_rows::Held;
 use kb_table::{RowResult, RowStop, kept, read_int, read_number};
-use kb_terms::{Op, Pool, TermId, VarKind};
+use kb_terms::{Node, Op, Pool, TermId, VarKind};
 use std::alloc::Global;
 
 /// Conditions on terms of a pool.
@@ -56,7 +56,8 @@ pub fn no_conditions(alloc: Global) -> RowResult<Held<Query>> {
     Ok(Held::new(alloc, query)?)
 }
 
-fn add_pieces(alloc: Global, query: &mut Query, kinds: &str, text: &str) -> RowResult<()> {
+/// Adds the conditions of a text, over variables of these kinds, of which those that the pool has are not made anew.
+pub fn add_pieces(alloc: Global, query: &mut Query, kinds: &str, text: &str) -> RowResult<()> {
     let variables = variables_of(alloc, &mut query.pool, kinds)?;
     for piece in text.split(", ") {
         add_piece(alloc, query, variables.as_slice(), piece)?;
@@ -65,14 +66,25 @@ fn add_pieces(alloc: Global, query: &mut Query, kinds: &str, text: &str) -> RowR
 }
 
 fn variables_of(alloc: Global, pool: &mut Pool, kinds: &str) -> RowResult<Vec<TermId>> {
-    let mut variables = Vec::new(alloc);
-    for kind in kinds.bytes() {
+    let mut variables = variables_in(alloc, pool)?;
+    for kind in kinds.bytes().skip(variables.len()) {
         let kind = match kind {
             b'i' => VarKind::Int,
             b'z' => VarKind::Bool,
             _ => return Err(RowStop::Malformed),
         };
         variables.push(kept(pool.variable(kind))?)?;
+    }
+    Ok(variables)
+}
+
+/// The terms that are variables.
+fn variables_in(alloc: Global, pool: &Pool) -> RowResult<Vec<TermId>> {
+    let mut variables = Vec::new(alloc);
+    for number in 0..pool.terms() {
+        if let Node::Var(..) = pool.node(TermId(number)) {
+            variables.push(TermId(number))?;
+        }
     }
     Ok(variables)
 }

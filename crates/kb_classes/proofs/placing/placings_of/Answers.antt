@@ -16,7 +16,7 @@ placing_at-requires c =
 pub loop-place-preserved : goal.loop-place-preserved
 loop-place-preserved c =
     placing_pushed c.args.classes.now c.args.places.now c.loop-place.place-index _ c.loop-place.tables.items c.push.new.self.items c.in_ok-table.table
-    (slice_get-get_or c.args.places.now c.loop-place.place-index none c.loop-place-test.true) c.loop-place.invariant c.in_ok-table.ensures c.in-Ok.ensures.items
+    (slice_get-get_or c.args.places.now c.loop-place.place-index none c.loop-place-test.true) c.loop-place.invariant c.in_ok-table.ensures c.in_ok-push.ensures.items
 
 pub returns : goal.returns
 returns c =

@@ -6,7 +6,7 @@ use Rattle.kb_format.proofs.verdicts.verdicts_of.Goals as goal
 
 pub loop-entry-preserved : goal.loop-entry-preserved
 loop-entry-preserved c =
-    rw (c.in-Ok.ensures.items)
+    rw (c.in_ok-push.ensures.items)
     (more_judged c.args.pool.now c.loop-entry.entry-index c.entry-item.result c.loop-entry.verdicts.items c.in_ok-verdict.verdict c.loop-entry-test.true c.entry-item.is c.loop-entry.invariant c.in_ok-verdict.ensures)
 
 pub returns : goal.returns

@@ -12,7 +12,7 @@ loop-number-preserved c =
     let same = c.as_slice.ensures.value in
     let chains = c.loop-number.chains.items in
     let number = c.loop-number.number in
-    let items = c.in-Ok.ensures.items in
+    let items = c.in_ok-push.ensures.items in
     let next : c.rank.result + 1 ≡ suc c.rank.result = omega arith in
     let chain : c.in_ok-chain.chain ≡ walk (parent_at parents) (suc c.rank.result) (Some number) =
     c.in_ok-chain.ensures ∙ ap (λ (ps : List (Option ℕ)). walk (parent_at ps) (c.rank.result + 1) (Some number)) same ∙ ap (λ (n : ℕ). walk (parent_at parents) n (Some number)) next in

@@ -22,4 +22,4 @@ loop-low-preserved c =
     (length rows ≡ low + 1)
     × ((k : ℕ) → k < low + 1 → length (slice_index_or rows k []) ≡ length order)
     × ((k high : ℕ) → k < low + 1 → (is_super rows k high ≡ true) ↔ IsAbove order k high))
-    (sym c.in-Ok.ensures.items) pushed
+    (sym c.in_ok-push.ensures.items) pushed

@@ -29,7 +29,7 @@ loop-class-preserved c =
     let many : length c.methods.result.now ≡ length class.methods = ap (λ (ms : List MethodInfo). length ms) c.methods.ensures in
     let next : c.in_ok-next.next ≡ length (methods_of (take i classes ++ class ∷ [])) = omega (arith, c.in_ok-next.ensures, c.loop-class.invariant.first_is, many, methods_pushed (take i classes) class) in
     record {
-      each = subst (λ (ns : List MemberNumbers). AreNumberedFrom after 0 (take (i + 1) classes) ns) (sym c.in-Ok.ensures.items)
+      each = subst (λ (ns : List MemberNumbers). AreNumberedFrom after 0 (take (i + 1) classes) ns) (sym c.in_ok-push.ensures.items)
           (subst (λ (cs : List Class). AreNumberedFrom after 0 cs (c.loop-class.numbers.items ++ own ∷ [])) (sym taken) are);
       first_is = next ∙ ap (λ (cs : List Class). length (methods_of cs)) (sym taken);
     }

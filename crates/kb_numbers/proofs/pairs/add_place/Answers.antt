@@ -6,4 +6,4 @@ pub returns-then-contains_key : goal.returns-then-contains_key
 returns-then-contains_key c = still_there c.args.table.now c.args.pair c.args.place (sym c.contains_key.ensures ∙ c.if-contains_key.true)
 
 pub returns : goal.returns
-returns c = first_added c.args.table.now c.args.pair c.args.place c.insert.new.self c.in-Ok.ensures.updates.0 (sym c.contains_key.ensures ∙ c.if-contains_key.false)
+returns c = first_added c.args.table.now c.args.pair c.args.place c.insert.new.self c.in_ok-insert.ensures.updates.0 (sym c.contains_key.ensures ∙ c.if-contains_key.false)

@@ -19,7 +19,7 @@ loop-entry-preserved c =
     let keeps = c.in_ok-number.ensures.keeps in
     record {
       each = zip_next (HasNumber after) pool c.loop-entry.row.items c.push.new.self.items c.loop-entry.entry-index c.entry-item.result c.in_ok-number.number c.loop-entry-test.true c.entry-item.is
-          c.in-Ok.ensures.items
+          c.in_ok-push.ensures.items
           (zip_as (HasNumber before) (HasNumber after) (take c.loop-entry.entry-index pool) c.loop-entry.row.items (λ entry number is. number_on before after entry number keeps is) c.loop-entry.invariant.each)
           c.in_ok-number.ensures.number;
       keeps = keeps_both c.args.texts.now before after c.loop-entry.invariant.keeps keeps;

@@ -23,7 +23,7 @@ loop-method-preserved c =
     let keeps = c.in_ok-pair.ensures.keeps in
     record {
       each = zip_next (IsMethodPair after) methods c.loop-method.pairs.items c.push.new.self.items c.loop-method.method-index c.method-item.result c.in_ok-pair.pair c.loop-method-test.true c.method-item.is
-          c.in-Ok.ensures.items
+          c.in_ok-push.ensures.items
           (zip_as (IsMethodPair before) (IsMethodPair after) (take c.loop-method.method-index methods) c.loop-method.pairs.items
           (λ method pair is. stands_on before after keeps pair method.name (kinds.Method method.kind) is) c.loop-method.invariant.each)
           c.in_ok-pair.ensures.pair;

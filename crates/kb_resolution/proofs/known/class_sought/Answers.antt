@@ -13,4 +13,4 @@ returns-clause-told c = λ texts spelled knows. c.class_of-told.ensures
 
 pub returns-clause-known : goal.returns-clause-known
 returns-clause-known c = λ texts spelled knows.
-    classes_more c.args.linked.now texts c.args.classes.now c.insert.new.self c.args.text c.class_of-told.result c.args.of.now c.in-Ok.ensures.updates.0 knows spelled c.class_of-told.ensures
+    classes_more c.args.linked.now texts c.args.classes.now c.insert.new.self c.args.text c.class_of-told.result c.args.of.now c.in_ok-insert.ensures.updates.0 knows spelled c.class_of-told.ensures

@@ -13,4 +13,4 @@ returns-clause-told c = λ texts spelled knows. c.has_left_out-told.ensures
 
 pub returns-clause-known : goal.returns-clause-known
 returns-clause-known c = λ texts spelled knows.
-    left_out_more texts c.args.left_out.now c.insert.new.self c.args.text c.has_left_out-told.result c.args.kind.now c.in-Ok.ensures.updates.0 knows spelled c.has_left_out-told.ensures
+    left_out_more texts c.args.left_out.now c.insert.new.self c.args.text c.has_left_out-told.result c.args.kind.now c.in_ok-insert.ensures.updates.0 knows spelled c.has_left_out-told.ensures

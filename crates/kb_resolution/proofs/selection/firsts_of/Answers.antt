@@ -14,7 +14,7 @@ pub loop-number-preserved : goal.loop-number-preserved
 loop-number-preserved c =
     let world = c.args.linked.now in
     let more =
-    one_more_there (λ (class first : ℕ). first ≡ first_of world class) c.loop-number.firsts.items c.push.new.self.items c.loop-number.first c.loop-number.number c.in-Ok.ensures.items
+    one_more_there (λ (class first : ℕ). first ≡ first_of world class) c.loop-number.firsts.items c.push.new.self.items c.loop-number.first c.loop-number.number c.in_ok-push.ensures.items
     c.loop-number.invariant.0 c.loop-number.invariant.1 c.loop-number.invariant.2 in
     let many : length c.methods.result.now ≡ length c.class_of.result.now.methods = ap (λ (ms : List MethodInfo). length ms) c.methods.ensures in
     let next : c.number_behind-first.result ≡ first_of world (c.loop-number.number + 1) =

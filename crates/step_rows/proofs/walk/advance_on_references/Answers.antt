@@ -1,11 +1,16 @@
 -- a state that has a choice is as before, and behind the only way on it is one from which steps lead on
 use Rattle.std.proofs.Common.{◌≡◌, List, refl, sym, subst, ◌∙◌, if◌then◌else◌}
 use Rattle.kb_class.specs.Naming.{Has}
+use Rattle.kb_classes.specs.World.{World}
 use Rattle.kb_picture.specs.declared.choice.Choice.{Choice}
 use Rattle.kb_picture.specs.declared.choice.Choice.TheVariants.{Only}
+use Rattle.kb_heap.specs.declared.bounds.Bounds.{Bounds}
 use Rattle.kb_terms.specs.Terms.{IsPool}
 use Rattle.kb_frames.specs.Next.{next_is_int}
 use Rattle.kb_frames.specs.State.{State}
+use Rattle.kb_ways.specs.Advancing.{IsAdvanced}
+use Rattle.kb_ways.specs.declared.advanced.Advanced.{Advanced}
+use Rattle.kb_ways.specs.declared.advanced.Advanced.TheVariants.{Chooses, Took}
 use Rattle.kb_ways.specs.Turns.{told}
 use Rattle.kb_ways.specs.Ways.{Take}
 use Rattle.kb_stepint.specs.Choices.{choices_of as int_choices}
@@ -17,21 +22,31 @@ use Rattle.step_rows.proofs.walk.advance_on_references.Goals as goal
 pub advance_ref-requires-clause-at : goal.advance_ref-requires-clause-at
 advance_ref-requires-clause-at c = c.heap_methods_stay.ensures.at c.args.world.now c.args.state.now c.requires.reached c.requires.references
 
+abbrev Advances : World → Bounds → State → State → Advanced → Type 0
+Advances world bounds old new advanced = IsAdvanced (reference_choices world old bounds) (taken world bounds old Only) old new advanced
+
 pub choose-requires-clause-reached : goal.choose-requires-clause-reached
-choose-requires-clause-reached c = subst (IsHeapReached c.args.world.now) (sym c.in-Ok-Chooses.ensures.advanced.0) c.requires.reached
+choose-requires-clause-reached c =
+    let advanced : Advances c.args.world.now c.args.row.now.bounds c.args.state.now c.advance_ref.new.state (Chooses c.in-Ok-Chooses.choices) =
+    subst (Advances c.args.world.now c.args.row.now.bounds c.args.state.now c.advance_ref.new.state) c.in-Ok-Chooses.field-0-is c.in-Ok-Chooses.ensures.advanced in
+    subst (IsHeapReached c.args.world.now) (sym advanced.0) c.requires.reached
 
 pub choose-requires-clause-offered : goal.choose-requires-clause-offered
 choose-requires-clause-offered c =
-    subst (λ (s : State). c.in-Ok-Chooses.choices.items
+    let advanced : Advances c.args.world.now c.args.row.now.bounds c.args.state.now c.advance_ref.new.state (Chooses c.in-Ok-Chooses.choices) =
+    subst (Advances c.args.world.now c.args.row.now.bounds c.args.state.now c.advance_ref.new.state) c.in-Ok-Chooses.field-0-is c.in-Ok-Chooses.ensures.advanced in
+    subst (λ (s : State). c.as_slice.result.now
     ≡ (if next_is_int c.args.world.now s then int_choices c.args.world.now s c.args.row.now.bounds else reference_choices c.args.world.now s c.args.row.now.bounds))
-    (sym c.in-Ok-Chooses.ensures.advanced.0) (c.in-Ok-Chooses.ensures.advanced.1 ∙ rw c.requires.references refl)
+    (sym advanced.0) (c.as_slice.ensures.value ∙ advanced.1 ∙ rw c.requires.references refl)
 
 pub tell_only-requires : goal.tell_only-requires
 tell_only-requires c =
-    let same : told c.advance_ref.new.state c.in-Ok-Took.outcome ≡ taken c.args.world.now c.args.row.now.bounds c.args.state.now Only = c.in-Ok-Took.ensures.advanced.1 in
+    let advanced : Advances c.args.world.now c.args.row.now.bounds c.args.state.now c.advance_ref.new.state (Took c.in-Ok-Took.outcome) =
+    subst (Advances c.args.world.now c.args.row.now.bounds c.args.state.now c.advance_ref.new.state) c.in-Ok-Took.field-0-is c.in-Ok-Took.ensures.advanced in
+    let same : told c.advance_ref.new.state c.in-Ok-Took.outcome ≡ taken c.args.world.now c.args.row.now.bounds c.args.state.now Only = advanced.1 in
     let pool : IsPool (taken c.args.world.now c.args.row.now.bounds c.args.state.now Only).state.nodes =
     subst (λ (take : Take). IsPool take.state.nodes) same c.in-Ok-Took.ensures.reached.sound.pool in
     let only : Has (reference_choices c.args.world.now c.args.state.now c.args.row.now.bounds) Only =
-    subst (λ (choices : List Choice). Has choices Only) (sym c.in-Ok-Took.ensures.advanced.0) (0, refl) in
+    subst (λ (choices : List Choice). Has choices Only) (sym advanced.0) (0, refl) in
     subst (λ (take : Take). GoesOnReached c.args.world.now take.state take.outcome) (sym same)
     (c.heap_methods_stay.ensures.references c.args.world.now c.args.row.now.bounds c.args.state.now Only c.requires.range c.requires.reached c.requires.references only pool)
