@@ -6,6 +6,7 @@ pub mod WorkingLaws
 pub mod ChainLaws
 pub mod LogLaws
 pub mod NeededLaws
+pub mod CuttingLaws
 pub mod TrailLaws
 pub mod IndexLaws
 pub mod PropagationLaws

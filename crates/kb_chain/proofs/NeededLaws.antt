@@ -35,12 +35,12 @@ get_past [] k le = refl
 get_past (x ∷ xs) zero le = absurd (omega arith)
 get_past (x ∷ xs) (suc k) le = get_past xs k (omega arith)
 
-get_front : (xs ys : List (List Literal)) (k : ℕ) → k < length xs → slice_get (xs ++ ys) k ≡ slice_get xs k
+pub get_front : (xs ys : List (List Literal)) (k : ℕ) → k < length xs → slice_get (xs ++ ys) k ≡ slice_get xs k
 get_front [] ys k lt = absurd (omega arith)
 get_front (x ∷ xs) ys zero lt = refl
 get_front (x ∷ xs) ys (suc k) lt = get_front xs ys k (omega arith)
 
-get_behind : (xs : List (List Literal)) (y : List Literal) (k : ℕ) → k ≡ length xs → slice_get (xs ++ y ∷ []) k ≡ Some y
+pub get_behind : (xs : List (List Literal)) (y : List Literal) (k : ℕ) → k ≡ length xs → slice_get (xs ++ y ∷ []) k ≡ Some y
 get_behind [] y zero e = refl
 get_behind [] y (suc k) e = absurd (omega (arith, e))
 get_behind (x ∷ xs) y zero e = absurd (omega (arith, e))
@@ -123,7 +123,7 @@ kept_push first marks all clauses n clause size h e k lt kept = elim (cases_eq k
       get_front clauses (clause ∷ []) k below ∙ h k below kept)
 ]
 
-kept_entry : (first i : ℕ) (marks : List Bool) → is_kept first marks (first + i) ≡ true → get_or marks i false ≡ true
+pub kept_entry : (first i : ℕ) (marks : List Bool) → is_kept first marks (first + i) ≡ true → get_or marks i false ≡ true
 kept_entry first i marks e = elim (or_cases (nat_lt (first + i) first) (get_or marks (first + i - first) false) e) [
   | inl s ↦ (let lt = ltb-true (first + i) first s in absurd (omega arith))
   | inr s ↦ (let k : first + i - first ≡ i = omega arith in ap (λ z. get_or marks z false) (sym k) ∙ s)

@@ -10,3 +10,4 @@ pub mod Trail
 pub mod Index
 pub mod Signs
 pub mod Needed
+pub mod Cutting

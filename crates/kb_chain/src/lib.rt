@@ -2,6 +2,7 @@
 #![tactic(auto)]
 
 mod clause;
+mod cutting;
 mod derivation;
 mod formula;
 mod freshness;
@@ -19,6 +20,7 @@ mod trail;
 mod working;
 
 pub use clause::Clause;
+pub use cutting::cut;
 pub use formula::Formula;
 pub use freshness::check_fresh;
 pub use kb_rows::Row;

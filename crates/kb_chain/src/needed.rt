@@ -65,7 +65,7 @@ fn derive_marked<'a>(
 }
 
 /// Marks the entries that the clauses of these numbers need, behind the `first` clauses of the formula.
-fn needed_entries(
+pub(crate) fn needed_entries(
     alloc: Global,
     first: usize,
     entries: &[Chain],

@@ -1,0 +1,244 @@
+-- What the entries that stay derive, by their new numbers.
+use Rattle.std.proofs.Common.{◌≡◌, ℕ, ◌+◌, ◌-◌, ◌<◌, ◌≤◌, ◌==◌, nat_lt, List, [], ◌∷◌, ◌++◌, Bool, true, false, cond, arith, refl, ap, sym, ◌∙◌, inl, inr, subst, Option, Some, None, option_and_then, slice_get, fold, map, zero, suc, length, get_or}
+use Rattle.std.proofs.lemmas.Bool.{or_left, or_right, false≢true, eq-eqb, cases_eq, cases_lt, cases_Bool, lt-ltb, le-ltb, cond-true, cond-false}
+use Rattle.std.proofs.lemmas.Option.{option_and_then_some}
+use Rattle.std.proofs.lemmas.List.{length_push}
+use Rattle.std.specs.List.{list_any}
+use Rattle.kb_chain.specs.Literal.{Literal}
+use Rattle.kb_chain.specs.Clause.{resolvent_of}
+use Rattle.kb_chain.specs.Chains.{resolved, entry_of, derived, IsRefutation}
+use Rattle.kb_chain.specs.Index.{has_number}
+use Rattle.kb_chain.specs.Needed.{cites, is_kept, IsNeeded}
+use Rattle.kb_chain.specs.Cutting.{Marking, marked_before, number_among, step_among, renumbered, marked_entries, IsCut}
+use Rattle.kb_chain.specs.declared.log.Chain.{Chain}
+use Rattle.kb_chain.proofs.NeededLaws.{get_past, get_front, get_behind, get_before, derived_length, kept_entry, needed_given}
+
+-- marks that come later count no less
+marked_rises : (marks : List Bool) (i j : ℕ) → i ≤ j → marked_before marks i ≤ marked_before marks j
+marked_rises marks i zero le = let e : i ≡ 0 = omega (arith, le) in subst (λ z. marked_before marks z ≤ 0) (sym e) (omega arith)
+marked_rises marks i (suc j) le = elim (cases_eq i (suc j)) [
+  | inl s ↦ subst (λ z. marked_before marks z ≤ marked_before marks (suc j)) (sym s) (omega arith)
+  | inr n ↦ (let r : marked_before marks i ≤ marked_before marks j = marked_rises marks i j (omega (arith, le, n)) in omega (arith, r))
+]
+
+number_below : (m : Marking) (k : ℕ) → k < m.first → number_among m k ≡ k
+number_below m k lt = cond-true (nat_lt k m.first) k (m.first + marked_before m.marks (k - m.first)) (lt-ltb k m.first lt)
+
+number_behind : (m : Marking) (i : ℕ) → number_among m (m.first + i) ≡ m.first + marked_before m.marks i
+number_behind m i =
+    cond-false (nat_lt (m.first + i) m.first) (m.first + i) (m.first + marked_before m.marks (m.first + i - m.first)) (le-ltb (m.first + i) m.first (omega arith))
+    ∙ ap (λ z. m.first + marked_before m.marks z) (let e : m.first + i - m.first ≡ i = omega arith in e)
+
+-- a number that comes later is no less
+number_past : (m : Marking) (i k : ℕ) → m.first + i ≤ k → m.first + marked_before m.marks i ≤ number_among m k
+number_past m i k le =
+    let e : m.first + (k - m.first) ≡ k = omega (arith, le) in
+    let r : marked_before m.marks i ≤ marked_before m.marks (k - m.first) = marked_rises m.marks i (k - m.first) (omega (arith, le)) in
+    let n : number_among m k ≡ m.first + marked_before m.marks (k - m.first) = ap (number_among m) (sym e) ∙ number_behind m (k - m.first) in
+    omega (arith, r, n)
+
+step_same : (xs ys : List (List Literal)) (m : Marking) (o : Option (List Literal)) (s : ℕ × ℕ) → slice_get ys (number_among m s.1) ≡ slice_get xs s.1
+    → resolved ys o (step_among m s) ≡ resolved xs o s
+unfolding resolved
+step_same xs ys m o s e = ap (λ (z : Option (List Literal)). option_and_then (λ clause. option_and_then (λ side. resolvent_of clause side s.0) z) o) e
+
+steps_same : (xs ys : List (List Literal)) (m : Marking) (steps : List (ℕ × ℕ)) (o : Option (List Literal))
+    → ((k : ℕ) → list_any (λ (s : ℕ × ℕ). s.1 == k) steps ≡ true → slice_get ys (number_among m k) ≡ slice_get xs k)
+    → fold (resolved ys) o (map (step_among m) steps) ≡ fold (resolved xs) o steps
+steps_same xs ys m [] o h = refl
+steps_same xs ys m (s ∷ ss) o h =
+    ap (λ (z : Option (List Literal)). fold (resolved ys) z (map (step_among m) ss)) (step_same xs ys m o s (h s.1 (or_left _ _ (eq-eqb s.1 s.1 refl))))
+    ∙ steps_same xs ys m ss (resolved xs o s) (λ k e. h k (or_right _ _ e))
+
+-- a chain with new numbers gives what it gave, where the clauses that it cites have these numbers
+pub renumbered_same : (xs ys : List (List Literal)) (m : Marking) (chain : Chain)
+    → ((k : ℕ) → cites chain k ≡ true → slice_get ys (number_among m k) ≡ slice_get xs k) → entry_of ys (renumbered m chain) ≡ entry_of xs chain
+renumbered_same xs ys m chain h =
+    ap (λ (z : Option (List Literal)). fold (resolved ys) z (map (step_among m) chain.steps)) (h chain.start (or_left _ _ (eq-eqb chain.start chain.start refl)))
+    ∙ steps_same xs ys m chain.steps (slice_get xs chain.start) (λ k e. h k (or_right _ _ e))
+
+-- the clauses that stay have their new numbers
+abbrev pub HasMoved : Marking → List (List Literal) → List (List Literal) → Type 0
+HasMoved m done kept = (k : ℕ) → k < length done → is_kept m.first m.marks k ≡ true → slice_get kept (number_among m k) ≡ slice_get done k
+
+-- the marked ones of the entries from entry i on cite clauses that stay, as far as they stand before them
+abbrev pub StaysClosed : Marking → ℕ → List Chain → Type 0
+StaysClosed m i entries =
+    (j : ℕ) (entry : Chain) → slice_get entries j ≡ Some entry → get_or m.marks (i + j) false ≡ true
+    → (k : ℕ) → cites entry k ≡ true → k < m.first + (i + j) → is_kept m.first m.marks k ≡ true
+
+-- what the marked entries from entry i on derive
+pub record CutDerives (m : Marking) (i : ℕ) (entries : List Chain) (all kept : List (List Literal)) : Type 0 where
+  pub clauses : List (List Literal)
+  pub derives : derived kept (marked_entries m i entries) ≡ Some clauses
+  pub moved : HasMoved m all clauses
+  pub count : length clauses ≡ m.first + marked_before m.marks (i + length entries)
+
+some_at : (xs : List (List Literal)) (k : ℕ) → k < length xs → (x : List Literal) × (slice_get xs k ≡ Some x)
+some_at [] k lt = absurd (omega (arith, lt))
+some_at (x ∷ xs) zero lt = (x, refl)
+some_at (x ∷ xs) (suc k) lt = some_at xs k (omega (arith, lt))
+
+-- one more clause that stays
+moved_more : (m : Marking) (i : ℕ) (done kept : List (List Literal)) (clause : List Literal) → length done ≡ m.first + i → length kept ≡ m.first + marked_before m.marks i
+    → HasMoved m done kept → HasMoved m (done ++ clause ∷ []) (kept ++ clause ∷ [])
+moved_more m i done kept clause size few moved k lt stays = elim (cases_eq k (m.first + i)) [
+  | inl s ↦ get_behind kept clause (number_among m k) (ap (number_among m) s ∙ (number_behind m i ∙ sym few)) ∙ sym (get_behind done clause k (s ∙ sym size))
+  | inr n ↦
+      (let more = length_push done clause in
+      let below : k < length done = omega (arith, n, lt, more, size) in
+      let at = some_at done k below in
+      get_before kept clause (number_among m k) at.0 (moved k below stays ∙ at.1) ∙ sym (get_front done (clause ∷ []) k below ∙ at.1))
+]
+
+-- one more clause that goes
+moved_skip : (m : Marking) (i : ℕ) (done kept : List (List Literal)) (clause : List Literal) → length done ≡ m.first + i → get_or m.marks i false ≡ false
+    → HasMoved m done kept → HasMoved m (done ++ clause ∷ []) kept
+moved_skip m i done kept clause size unmarked moved k lt stays = elim (cases_eq k (m.first + i)) [
+  | inl s ↦ absurd (false≢true (sym unmarked ∙ kept_entry m.first i m.marks (ap (is_kept m.first m.marks) (sym s) ∙ stays)))
+  | inr n ↦
+      (let more = length_push done clause in
+      let below : k < length done = omega (arith, n, lt, more, size) in
+      moved k below stays ∙ sym (get_front done (clause ∷ []) k below))
+]
+
+-- what a marked entry cites has its new number, or is nowhere
+cited_moved : (m : Marking) (i : ℕ) (done kept : List (List Literal)) (entry : Chain) → length done ≡ m.first + i → length kept ≡ m.first + marked_before m.marks i
+    → HasMoved m done kept → ((k : ℕ) → cites entry k ≡ true → k < m.first + i → is_kept m.first m.marks k ≡ true)
+    → (k : ℕ) → cites entry k ≡ true → slice_get kept (number_among m k) ≡ slice_get done k
+cited_moved m i done kept entry size few moved closed k c = elim (cases_lt k (m.first + i)) [
+  | inl lt ↦ moved k (omega (arith, size, lt)) (closed k c lt)
+  | inr ge ↦
+      (let past : m.first + marked_before m.marks i ≤ number_among m k = number_past m i k ge in
+      get_past kept (number_among m k) (omega (arith, few, past)) ∙ sym (get_past done k (omega (arith, size, ge))))
+]
+
+closed_later : (m : Marking) (i : ℕ) (entry : Chain) (entries : List Chain) → StaysClosed m i (entry ∷ entries) → StaysClosed m (suc i) entries
+closed_later m i entry entries closed j later at marked k c lt =
+    let e : suc i + j ≡ i + suc j = omega arith in
+    closed (suc j) later at (ap (λ z. get_or m.marks z false) (sym e) ∙ marked) k c (omega (arith, lt))
+
+closed_now : (m : Marking) (i : ℕ) (entry : Chain) (entries : List Chain) → StaysClosed m i (entry ∷ entries) → get_or m.marks i false ≡ true
+    → (k : ℕ) → cites entry k ≡ true → k < m.first + i → is_kept m.first m.marks k ≡ true
+closed_now m i entry entries closed marked k c lt =
+    let e : i + 0 ≡ i = omega arith in
+    closed 0 entry refl (ap (λ z. get_or m.marks z false) e ∙ marked) k c (omega (arith, lt))
+
+cut_marked : (m : Marking) (i : ℕ) (entry : Chain) (entries : List Chain) (all kept : List (List Literal)) (clause : List Literal) → get_or m.marks i false ≡ true
+    → entry_of kept (renumbered m entry) ≡ Some clause → CutDerives m (suc i) entries all (kept ++ clause ∷ []) → CutDerives m i (entry ∷ entries) all kept
+cut_marked m i entry entries all kept clause marked new r = record {
+  clauses = r.clauses;
+  derives = ap (λ b. derived kept (cond b (renumbered m entry ∷ marked_entries m (suc i) entries) (marked_entries m (suc i) entries))) marked
+      ∙ (ap (λ (o : Option (List Literal)). option_and_then (λ c. derived (kept ++ c ∷ []) (marked_entries m (suc i) entries)) o) new ∙ r.derives);
+  moved = r.moved;
+  count = r.count ∙ ap (λ z. m.first + marked_before m.marks z) (let e : suc i + length entries ≡ i + suc (length entries) = omega arith in e);
+}
+
+cut_skipped : (m : Marking) (i : ℕ) (entry : Chain) (entries : List Chain) (all kept : List (List Literal)) → get_or m.marks i false ≡ false
+    → CutDerives m (suc i) entries all kept → CutDerives m i (entry ∷ entries) all kept
+cut_skipped m i entry entries all kept unmarked r = record {
+  clauses = r.clauses;
+  derives = ap (λ b. derived kept (cond b (renumbered m entry ∷ marked_entries m (suc i) entries) (marked_entries m (suc i) entries))) unmarked ∙ r.derives;
+  moved = r.moved;
+  count = r.count ∙ ap (λ z. m.first + marked_before m.marks z) (let e : suc i + length entries ≡ i + suc (length entries) = omega arith in e);
+}
+
+pub cut_derives : (entries : List Chain) (m : Marking) (i : ℕ) (done all kept : List (List Literal)) → derived done entries ≡ Some all → length done ≡ m.first + i
+    → length kept ≡ m.first + marked_before m.marks i → HasMoved m done kept → StaysClosed m i entries → CutDerives m i entries all kept
+cut_derives [] m i done all kept h size few moved closed =
+    let s : done ≡ all = cc in record {
+      clauses = kept;
+      derives = refl;
+      moved = subst (λ z. HasMoved m z kept) s moved;
+      count = few ∙ ap (λ z. m.first + marked_before m.marks z) (let e : i ≡ i + 0 = omega arith in e);
+    }
+cut_derives (entry ∷ entries) m i done all kept h size few moved closed =
+    option_and_then_some (λ clause. derived (done ++ clause ∷ []) entries) (entry_of done entry) all h
+    (λ clause f g. (let more = length_push done clause in
+    let size_more : length (done ++ clause ∷ []) ≡ m.first + suc i = omega (arith, more, size) in
+    elim (cases_Bool (get_or m.marks i false)) [
+      | inl t ↦ cut_marked m i entry entries all kept clause t
+          (renumbered_same done kept m entry (cited_moved m i done kept entry size few moved (closed_now m i entry entries closed t)) ∙ f)
+          (cut_derives entries m (suc i) (done ++ clause ∷ []) all (kept ++ clause ∷ []) g size_more
+          (length_push kept clause ∙ counted_more m i (length kept) few t)
+          (moved_more m i done kept clause size few moved) (closed_later m i entry entries closed))
+      | inr n ↦ cut_skipped m i entry entries all kept n
+          (cut_derives entries m (suc i) (done ++ clause ∷ []) all kept g size_more (counted_same m i (length kept) few n)
+          (moved_skip m i done kept clause size n moved) (closed_later m i entry entries closed))
+    ]))
+  where
+    counted_more : (m : Marking) (i size : ℕ) → size ≡ m.first + marked_before m.marks i → get_or m.marks i false ≡ true → size + 1 ≡ m.first + marked_before m.marks (suc i)
+    counted_more m i size e t =
+        let more : marked_before m.marks (suc i) ≡ marked_before m.marks i + 1 = ap (λ b. marked_before m.marks i + cond b 1 0) t in
+        omega (arith, e, more)
+
+    counted_same : (m : Marking) (i size : ℕ) → size ≡ m.first + marked_before m.marks i → get_or m.marks i false ≡ false → size ≡ m.first + marked_before m.marks (suc i)
+    counted_same m i size e n =
+        let more : marked_before m.marks (suc i) ≡ marked_before m.marks i + 0 = ap (λ b. marked_before m.marks i + cond b 1 0) n in
+        omega (arith, e, more)
+
+-- the last clause of a list
+ends_in : (xs : List (List Literal)) (y : List Literal) (k : ℕ) → slice_get xs k ≡ Some y → length xs ≡ suc k → (front : List (List Literal)) × (xs ≡ front ++ y ∷ [])
+ends_in [] y k e n = absurd (omega (arith, n))
+ends_in (x ∷ []) y zero e n = let s : x ≡ y = cc in ([], ap (λ z. z ∷ []) s)
+ends_in (x ∷ z ∷ zs) y zero e n = absurd (omega (arith, n))
+ends_in (x ∷ xs) y (suc k) e n = let r = ends_in xs y k e (omega (arith, n)) in (x ∷ r.0, ap (λ z. x ∷ z) r.1)
+
+entry_inside : (entries : List Chain) (i : ℕ) (entry : Chain) → slice_get entries i ≡ Some entry → i < length entries
+entry_inside [] i entry e = cc
+entry_inside (x ∷ xs) zero entry e = omega arith
+entry_inside (x ∷ xs) (suc i) entry e = let r = entry_inside xs i entry e in omega (arith, r)
+
+-- the marks of what is needed are closed
+needed_closed : (first : ℕ) (entries cut : List Chain) (h : IsCut first entries cut) → StaysClosed (record { first = first; marks = h.marks }) 0 entries
+needed_closed first entries cut h j entry at marked k c lt = elim (cases_lt k first) [
+  | inl below ↦ or_left _ _ (lt-ltb k first below)
+  | inr ge ↦
+      (let inside : j < length entries = entry_inside entries j entry at in
+      let e : first + (k - first) ≡ k = omega (arith, ge) in
+      or_right (nat_lt k first) _ (h.needed (k - first) (omega (arith, lt, ge, inside)) (λ set given closed.
+      closed j entry at (h.only j marked set given closed) (first + (k - first)) (ap (cites entry) e ∙ c) (omega (arith, e, lt)))))
+]
+
+-- what is left of a refutation is one
+pub refutation_cut : (clauses : List (List Literal)) (entries cut : List Chain) → IsCut (length clauses) entries cut → IsRefutation clauses entries → IsRefutation clauses cut
+refutation_cut clauses entries cut h r =
+    let m : Marking = record { first = length clauses; marks = h.marks } in
+    let last = length entries - 1 in
+    let some : suc last ≡ length entries = omega (arith, r.entry) in
+    let marked : get_or h.marks last false ≡ true =
+    h.needed last (omega (arith, some)) (needed_given (length clauses) entries ((length clauses + last) ∷ []) (length clauses + last)
+    (or_left _ _ (eq-eqb (length clauses + last) (length clauses + last) refl))) in
+    let e = cut_derives entries m 0 clauses (r.last.0 ++ [] ∷ []) clauses r.last.1 (omega arith) (omega arith)
+    (λ k lt stays. ap (slice_get clauses) (number_below m k lt)) (needed_closed (length clauses) entries cut h) in
+    let size = derived_length entries clauses (r.last.0 ++ [] ∷ []) r.last.1 in
+    let more = length_push r.last.0 [] in
+    let ends : slice_get (r.last.0 ++ [] ∷ []) (length clauses + last) ≡ Some [] = get_behind r.last.0 [] (length clauses + last) (omega (arith, size, more, some)) in
+    let counted : marked_before h.marks (suc last) ≡ marked_before h.marks last + 1 = ap (λ b. marked_before h.marks last + cond b 1 0) marked in
+    let whole : marked_before h.marks (0 + length entries) ≡ marked_before h.marks (suc last) = ap (marked_before h.marks) (let s : 0 + length entries ≡ suc last = omega (arith, some) in s) in
+    let count : length e.clauses ≡ suc (length clauses + marked_before h.marks last) = (let s = e.count in omega (arith, s, whole, counted)) in
+    let at : slice_get e.clauses (length clauses + marked_before h.marks last) ≡ Some [] =
+    ap (slice_get e.clauses) (sym (number_behind m last))
+    ∙ (e.moved (length clauses + last) (omega (arith, size, some)) (or_right (nat_lt (length clauses + last) (length clauses)) _
+    (ap (λ z. get_or h.marks z false) (let s : length clauses + last - length clauses ≡ last = omega arith in s) ∙ marked)) ∙ ends) in
+    let front = ends_in e.clauses [] (length clauses + marked_before h.marks last) at count in
+    let long = derived_length (marked_entries m 0 entries) clauses e.clauses e.derives in
+    subst (λ z. IsRefutation clauses z) (sym h.shape) (record {
+      entry = omega (arith, long, count);
+      last = (front.0, e.derives ∙ ap Some front.1);
+    })
+
+marked_shorter : (m : Marking) (i : ℕ) (entries : List Chain) → length (marked_entries m i entries) ≤ length entries
+marked_shorter m i [] = omega arith
+marked_shorter m i (entry ∷ entries) =
+    let r : length (marked_entries m (suc i) entries) ≤ length entries = marked_shorter m (suc i) entries in
+    elim (cases_Bool (get_or m.marks i false)) [
+      | inl t ↦ (let e = ap (λ b. length (cond b (renumbered m entry ∷ marked_entries m (suc i) entries) (marked_entries m (suc i) entries))) t in omega (arith, e, r))
+      | inr n ↦ (let e = ap (λ b. length (cond b (renumbered m entry ∷ marked_entries m (suc i) entries) (marked_entries m (suc i) entries))) n in omega (arith, e, r))
+    ]
+
+pub cut_shorter : (first : ℕ) (entries cut : List Chain) → IsCut first entries cut → length cut ≤ length entries
+cut_shorter first entries cut h =
+    let e = ap length h.shape in
+    let r = marked_shorter (record { first = first; marks = h.marks }) 0 entries in
+    omega (arith, e, r)
