@@ -2,8 +2,8 @@ use Rattle.std.proofs.Common.{◌≡◌, ◌+◌, ◌∙◌, ap, sym, subst, ref
 use Rattle.std.proofs.lemmas.List.{length_push}
 use Rattle.kb_chain.specs.Chains.{derived, IsRefutation}
 use Rattle.kb_chain.proofs.LogLaws.{derived-push, refutation_from}
-use Rattle.kb_sat.proofs.solver.refutation.Goals as goal
-use Rattle.kb_sat.proofs.solver.refutation.Goals.{In_ok-push}
+use Rattle.kb_sat.proofs.solver.plain_refutation.Goals as goal
+use Rattle.kb_sat.proofs.solver.plain_refutation.Goals.{In_ok-push}
 
 -- the log of the search and the last chain
 entries : (c : In_ok-push) → c.push.new.self ≡ c.args.search.now.base.entries ++ c.in_ok-chain.chain ∷ []
