@@ -4,6 +4,7 @@ pub mod OrderLaws
 pub mod Soundness
 pub mod WorkingLaws
 pub mod ChainLaws
+pub mod UnitLaws
 pub mod LogLaws
 pub mod NeededLaws
 pub mod CuttingLaws

@@ -1,5 +1,5 @@
 -- Literals and the test whether a list has one.
-use Rattle.std.proofs.Common.{◌≡◌, ℕ, List, [], ◌∷◌, ◌++◌, Bool, true, false, not, ◌&&◌, ◌||◌, cond, arith, refl, ap, sym, ◌∙◌}
+use Rattle.std.proofs.Common.{◌≡◌, ℕ, List, [], ◌∷◌, ◌++◌, Bool, true, false, not, ◌&&◌, ◌||◌, cond, arith, refl, ap, sym, ◌∙◌, inl, inr, ◌⊎◌}
 use Rattle.std.proofs.lemmas.Bool.{or_left, or_right, eqb-true, eq-eqb, false≢true}
 use Rattle.std.proofs.lemmas.List.Folds.{list_any-append}
 use Rattle.std.specs.List.{filter}
@@ -27,6 +27,16 @@ negated-negated l = ap (λ p. literal l.variable p) (twice l.positive)
     twice : (b : Bool) → not (not b) ≡ b
     twice true = refl
     twice false = refl
+
+-- the literals of a variable are one and its negation
+pub same_variable : (l m : Literal) → m.variable ≡ l.variable → (m ≡ l) ⊎ (m ≡ negated l)
+same_variable l m e = go l.variable m.variable l.positive m.positive e
+  where
+    go : (v w : ℕ) (p q : Bool) → w ≡ v → (literal w q ≡ literal v p) ⊎ (literal w q ≡ literal v (not p))
+    go v w true true e = inl (ap (λ z. literal z true) e)
+    go v w true false e = inr (ap (λ z. literal z false) e)
+    go v w false true e = inr (ap (λ z. literal z true) e)
+    go v w false false e = inl (ap (λ z. literal z false) e)
 
 -- the head of a list is in it, and so is what is in its tail
 pub has_head : (l : Literal) (ls : List Literal) → has (l ∷ ls) l ≡ true

@@ -11,3 +11,4 @@ pub mod Index
 pub mod Signs
 pub mod Needed
 pub mod Cutting
+pub mod Units

@@ -3,13 +3,14 @@ use Rattle.std.proofs.Common.{◌≡◌, ℕ, ◌+◌, ◌*◌, ◌<◌, ◌≤�
 use Rattle.std.proofs.lemmas.Bool.{false≢true, or_cases, or_left, or_right, and_parts, and_from, cases_Bool, false_from_ne_true, not-true}
 use Rattle.std.proofs.lemmas.List.{take_all, take-append-le, take_more}
 use Rattle.kb_chain.specs.Literal.{Literal, literal, has, same, negated, place_of}
-use Rattle.kb_chain.specs.Clause.{clause_of, without, has_only, are_opposite}
+use Rattle.kb_chain.specs.Clause.{clause_of, without, has_only}
 use Rattle.kb_chain.specs.Cnf.{Cnf}
 use Rattle.kb_chain.specs.Chains.{resolved, entry_of}
 use Rattle.kb_chain.specs.declared.log.Chain.{Chain}
 use Rattle.kb_chain.proofs.LiteralLaws.{same-true, same_refl, has-append, has-filter, negated-negated}
 use Rattle.kb_chain.proofs.OrderLaws.{has-clause_of}
 use Rattle.kb_chain.proofs.ChainLaws.{resolved_with}
+use Rattle.kb_chain.proofs.UnitLaws.{opposite}
 use Rattle.kb_chain.proofs.LogLaws.{derived-push}
 use Rattle.kb_chain.proofs.PropagationLaws.{taken_part}
 use Rattle.kb_propagate.specs.Tables.{IsDistinct}
@@ -113,13 +114,6 @@ only_kept set row clause l is free only =
     let p = and_parts _ _ only in
     and_from _ _ (is.part l p.0) (ap not (false_from_ne_true _ (λ e.
     false≢true (sym free ∙ (ap set (sym (negated-negated l)) ∙ is.rest (negated l) e (not-true _ p.1))))))
-
-opposite : (left right : List Literal) (l : Literal) → has_only left l ≡ true → has_only right (negated l) ≡ true → are_opposite left right l.variable ≡ true
-opposite left right l f g = go l.variable l.positive f g
-  where
-    go : (v : ℕ) (p : Bool) → has_only left (literal v p) ≡ true → has_only right (literal v (not p)) ≡ true → are_opposite left right v ≡ true
-    go v true f g = or_left _ _ (and_from _ _ f g)
-    go v false f g = or_right _ _ (and_from _ _ f g)
 
 abbrev united : List Literal → List Literal → ℕ → List Literal
 united left right pivot = clause_of (without pivot (left ++ right))

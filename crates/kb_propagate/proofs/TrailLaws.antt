@@ -6,7 +6,7 @@ use Rattle.std.proofs.lemmas.List.Sums.{sum_by-cons}
 use Rattle.kb_chain.specs.Literal.{Literal, literal, has, same, negated, place_of}
 use Rattle.kb_chain.specs.Working.{marked}
 use Rattle.kb_chain.specs.Trail.{unmarked, IsMarked}
-use Rattle.kb_chain.proofs.LiteralLaws.{same-true, same_refl, has-append, negated-negated, place_of-injective}
+use Rattle.kb_chain.proofs.LiteralLaws.{same-true, same_refl, has-append, negated-negated, place_of-injective, same_variable}
 use Rattle.kb_chain.proofs.PropagationLaws.{taken_part}
 use Rattle.kb_propagate.specs.Trail.{Assigned, IsTrail, level_start, cut_back}
 use Rattle.kb_propagate.specs.Tables.{assigned, IsTabled, IsDistinct}
@@ -90,15 +90,6 @@ IsMarked-pop marks xs l h lt absent = record {
     no_more : (b : Bool) → (b || false) ≡ b
     no_more true = refl
     no_more false = refl
-
-pub same_variable : (l m : Literal) → m.variable ≡ l.variable → (m ≡ l) ⊎ (m ≡ negated l)
-same_variable l m e = go l.variable m.variable l.positive m.positive e
-  where
-    go : (v w : ℕ) (p q : Bool) → w ≡ v → (literal w q ≡ literal v p) ⊎ (literal w q ≡ literal v (not p))
-    go v w true true e = inl (ap (λ z. literal z true) e)
-    go v w true false e = inr (ap (λ z. literal z false) e)
-    go v w false true e = inr (ap (λ z. literal z true) e)
-    go v w false false e = inl (ap (λ z. literal z false) e)
 
 -- what holds of the starts and the reasons with one more literal
 pub record IsNext (t : Assigned) (reason : Option ℕ) (starts : List ℕ) : Type 0 where

@@ -7,7 +7,7 @@ use Rattle.kb_chain.specs.Literal.{Literal, literal, has, same, negated}
 use Rattle.kb_chain.specs.Clause.{clause_of, without, has_only, are_opposite, resolvent_of}
 use Rattle.kb_chain.specs.Propagation.{all_negated, others}
 use Rattle.kb_chain.specs.Chains.{resolved}
-use Rattle.kb_chain.proofs.LiteralLaws.{same-true, has-append, has-filter, has_head, negated-negated}
+use Rattle.kb_chain.proofs.LiteralLaws.{same-true, has-append, has-filter, has_head, negated-negated, same_variable}
 use Rattle.kb_chain.proofs.OrderLaws.{has-clause_of}
 use Rattle.kb_chain.proofs.PropagationLaws.{all_negated-from, all_negated-at, has-others, taken_part}
 use Rattle.kb_chain.proofs.ChainLaws.{resolved_with}
@@ -15,7 +15,6 @@ use Rattle.kb_sat.specs.Analysis.{is_seen, IsHeld, IsReached}
 use Rattle.kb_propagate.specs.Store.{IsRow, IsStored}
 use Rattle.kb_propagate.specs.Trail.{IsReason}
 use Rattle.kb_propagate.proofs.Places.{at_same, at_has}
-use Rattle.kb_propagate.proofs.TrailLaws.{same_variable}
 use Rattle.kb_sat.proofs.MarkLaws.{IsOnce, has_taken_at, at_has_taken}
 
 -- a literal of the trail is not among those before it

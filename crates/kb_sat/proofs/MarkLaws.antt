@@ -4,8 +4,8 @@ use Rattle.std.proofs.lemmas.Bool.{false≢true, cases_eq, le-leb, leb-true}
 use Rattle.kb_chain.specs.Literal.{Literal, literal, has, negated}
 use Rattle.kb_sat.specs.Analysis.{is_seen, at_position, pending_below}
 use Rattle.kb_propagate.specs.Tables.{IsDistinct}
+use Rattle.kb_chain.proofs.LiteralLaws.{same_variable}
 use Rattle.kb_propagate.proofs.Places.{at_taken, at_take, at_get_or, has_at, at_has}
-use Rattle.kb_propagate.proofs.TrailLaws.{same_variable}
 
 -- each variable stands once
 abbrev pub IsOnce : List Literal → Type 0

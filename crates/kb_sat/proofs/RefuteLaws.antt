@@ -12,7 +12,7 @@ use Rattle.kb_chain.specs.Index.{has_number}
 use Rattle.kb_chain.specs.Needed.{cites}
 use Rattle.kb_chain.specs.declared.log.Chain.{Chain}
 use Rattle.kb_chain.proofs.NeededLaws.{entry_of_same}
-use Rattle.kb_chain.proofs.LiteralLaws.{same-true, has_head}
+use Rattle.kb_chain.proofs.LiteralLaws.{same-true, has_head, same_variable}
 use Rattle.kb_chain.proofs.PropagationLaws.{all_negated-at, has-others, taken_part}
 use Rattle.kb_propagate.specs.Trail.{Assigned, IsTrail, HasReasons}
 use Rattle.kb_propagate.specs.Store.{IsRow, IsStored}
@@ -20,7 +20,6 @@ use Rattle.kb_propagate.specs.Base.{IsConflict}
 use Rattle.kb_sat.specs.Search.{IsRefuting}
 use Rattle.kb_sat.specs.Analysis.{is_seen, is_pivot, IsReached, IsLastSeen, NoneSeen, MayCite}
 use Rattle.kb_propagate.proofs.Places.{some_in, at_has, at_inside, at_same}
-use Rattle.kb_propagate.proofs.TrailLaws.{same_variable}
 use Rattle.kb_sat.proofs.MarkLaws.{IsOnce, seen_set, seen_other}
 use Rattle.kb_sat.proofs.MarkedLaws.{variable_inside}
 use Rattle.kb_sat.proofs.HeldLaws.{held_start, reached_skip, reached_resolve}
