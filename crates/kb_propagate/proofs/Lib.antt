@@ -10,3 +10,4 @@ pub mod JustifyLaws
 pub mod BaseLaws
 pub mod BeginLaws
 pub mod ForgetLaws
+pub mod NotedLaws

@@ -7,3 +7,4 @@ pub mod Watches
 pub mod Walking
 pub mod Base
 pub mod Forgetting
+pub mod Noted
