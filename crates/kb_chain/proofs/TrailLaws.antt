@@ -6,7 +6,9 @@ use Rattle.std.proofs.lemmas.List.Sums.{sum_by-cons}
 use Rattle.kb_chain.specs.Literal.{Literal, literal, has, same, place_of}
 use Rattle.kb_chain.specs.Working.{marked}
 use Rattle.kb_chain.specs.Trail.{unmarked, IsMarked}
+use Rattle.kb_chain.specs.Units.{StandOnce}
 use Rattle.kb_chain.proofs.LiteralLaws.{same-true, same_refl, has-append, place_of-injective}
+use Rattle.kb_chain.proofs.UnitLaws.{StandOnce-push}
 
 literal_at : ℕ → Literal
 literal_at k = literal (k / 2) (k % 2 == 0)
@@ -140,3 +142,19 @@ IsMarked-last marks xs ys l place e f h =
   where
     whole : IsMarked marks (xs ++ l ∷ [])
     whole = subst (λ z. IsMarked marks z) e h
+
+last_of : (x : Literal) (xs : List Literal) → (front : List Literal) × (last : Literal) × ((x ∷ xs) ≡ front ++ last ∷ [])
+last_of x [] = ([], x, refl)
+last_of x (y ∷ ys) = let r = last_of y ys in (x ∷ r.0, r.1, ap (λ z. x ∷ z) r.2)
+
+-- no literal of a table stands twice
+pub marked_once : (n : ℕ) (marks : List Bool) (xs : List Literal) → length xs ≡ n → IsMarked marks xs → StandOnce xs
+marked_once n marks [] e h = tt
+marked_once zero marks (x ∷ xs) e h = absurd (omega (arith, e))
+marked_once (suc n) marks (x ∷ xs) e h =
+    let s = last_of x xs in
+    let more = length_push s.0 s.1 in
+    let size : length (x ∷ xs) ≡ length (s.0 ++ s.1 ∷ []) = ap length s.2 in
+    subst (λ z. StandOnce z) (sym s.2) (StandOnce-push s.0 s.1
+    (marked_once n (set marks (place_of s.1) false) s.0 (omega (arith, e, more, size)) (IsMarked-last marks s.0 (x ∷ xs) s.1 (place_of s.1) s.2 refl h))
+    (last_once marks s.0 s.1 (subst (λ z. IsMarked marks z) s.2 h)))

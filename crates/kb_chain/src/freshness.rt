@@ -15,11 +15,11 @@ use crate::derivation::derive;
 use crate::formula::Formula;
 use crate::index::Index;
 use crate::literal::Lit;
+use crate::literal_set::LiteralSet;
 use crate::log::{Chain, Log, Verdict};
 use crate::propagation::{examine, propagate};
 use crate::signs::has_both_signs;
 use crate::store::Store;
-use crate::trail::Trail;
 use crate::working::Working;
 use std::alloc::Global;
 
@@ -52,7 +52,7 @@ fn check_from(
     requires empty { working.old.clause ≡ [] }
     ensures { IfOk result (JudgesFresh formula.now.clauses entries.now) }
 {
-    let mut trail = Trail::new(alloc, formula.vars())?;
+    let mut trail = LiteralSet::new(alloc, formula.vars())?;
     let mut index = index_of(alloc, formula)?;
     let quiet = begin(formula, store, &index, &mut trail)?;
     check_entries(
@@ -67,7 +67,7 @@ fn check_entries(
     entries: &[Chain],
     store: &mut Store<'_>,
     working: &mut Working,
-    trail: &mut Trail,
+    trail: &mut LiteralSet,
     index: &mut Index,
     quiet: bool,
 ) -> Result<Verdict, NoMemory>
@@ -105,7 +105,7 @@ fn check_entries(
 fn take_new(
     store: &mut Store<'_>,
     index: &mut Index,
-    trail: &mut Trail,
+    trail: &mut LiteralSet,
     entry: &Chain,
     number: u32,
     clause: Clause,
@@ -152,7 +152,7 @@ fn begin(
     formula: &Formula,
     store: &Store<'_>,
     index: &Index,
-    trail: &mut Trail,
+    trail: &mut LiteralSet,
 ) -> Result<bool, NoMemory>
     requires formula { store.now ≡ formula.now }
     requires places { trail.old.places ≡ 2 * store.now.vars + 2 }
@@ -176,7 +176,7 @@ fn begin(
 fn take_in(
     store: &mut Store<'_>,
     index: &mut Index,
-    trail: &mut Trail,
+    trail: &mut LiteralSet,
     number: u32,
     clause: Clause,
 ) -> Result<bool, NoMemory>
@@ -209,7 +209,7 @@ fn take_in(
 fn is_new(
     store: &Store<'_>,
     index: &Index,
-    trail: &mut Trail,
+    trail: &mut LiteralSet,
     clause: &Clause,
     likely: Option<Lit>,
 ) -> Result<bool, NoMemory>
@@ -242,7 +242,7 @@ fn is_new(
 fn misses_likely(
     store: &Store<'_>,
     index: &Index,
-    trail: &mut Trail,
+    trail: &mut LiteralSet,
     clause: &Clause,
     likely: Option<Lit>,
 ) -> Result<bool, NoMemory>
@@ -267,7 +267,7 @@ fn misses_likely(
 fn misses(
     store: &Store<'_>,
     index: &Index,
-    trail: &mut Trail,
+    trail: &mut LiteralSet,
     clause: &Clause,
     literal: Lit,
 ) -> Result<bool, NoMemory>
@@ -292,7 +292,7 @@ fn misses(
 fn goes_on(
     store: &Store<'_>,
     index: &Index,
-    trail: &mut Trail,
+    trail: &mut LiteralSet,
     clause: &Clause,
     literal: Lit,
 ) -> Result<bool, NoMemory>
@@ -317,7 +317,7 @@ fn goes_on(
 /// Puts the negations of the clause's other literals into the trail.
 fn assume_others(
     store: &Store<'_>,
-    trail: &mut Trail,
+    trail: &mut LiteralSet,
     clause: &Clause,
     literal: Lit,
 ) -> Result<(), NoMemory>

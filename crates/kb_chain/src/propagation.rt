@@ -12,8 +12,8 @@ use crate::NoMemory;
 use crate::clause::Clause;
 use crate::index::Index;
 use crate::literal::Lit;
+use crate::literal_set::LiteralSet;
 use crate::store::Store;
-use crate::trail::Trail;
 
 /// How a clause stands to a set of literals.
 #[derive(Clone, Copy)]
@@ -32,7 +32,7 @@ pub(crate) enum Status {
 pub(crate) fn propagate(
     store: &Store<'_>,
     index: &Index,
-    trail: &mut Trail,
+    trail: &mut LiteralSet,
     next: usize,
 ) -> Result<bool, NoMemory>
     requires places { trail.old.places ≡ 2 * store.now.vars + 2 }
@@ -62,7 +62,7 @@ pub(crate) fn propagate(
 fn visit(
     store: &Store<'_>,
     index: &Index,
-    trail: &mut Trail,
+    trail: &mut LiteralSet,
     literal: Lit,
 ) -> Result<bool, NoMemory>
     requires places { trail.old.places ≡ 2 * store.now.vars + 2 }
@@ -88,7 +88,7 @@ fn visit(
 }
 
 /// Reaches the literal that is left of a clause, if all others are negated; false where all are.
-pub(crate) fn examine(clause: &Clause, trail: &mut Trail) -> Result<bool, NoMemory>
+pub(crate) fn examine(clause: &Clause, trail: &mut LiteralSet) -> Result<bool, NoMemory>
     requires { AreWithin trail.old.places clause.now }
     ensures settled { IfOk result (λ quiet. OnTrue quiet (IsSettled (has trail.old.literals) (has trail.new.literals) clause.now)) }
     ensures negated { IfOk result (λ quiet. OnFalse quiet (all_negated (has trail.new.literals) clause.now ≡ true)) }
@@ -109,7 +109,7 @@ pub(crate) fn examine(clause: &Clause, trail: &mut Trail) -> Result<bool, NoMemo
 }
 
 /// How the clause stands to the trail.
-fn standing(clause: &Clause, trail: &Trail) -> Status
+fn standing(clause: &Clause, trail: &LiteralSet) -> Status
     ensures value { result ≡ status_of (open_literals (has trail.now.literals) clause.now) }
     ensures ordered { IsOrdered clause.now }
 {

@@ -1,5 +1,5 @@
 use Rattle.kb_chain.proofs.TrailLaws.{IsMarked-last}
-use Rattle.kb_chain.proofs.trail.Trail.remove_last.Goals as goal
+use Rattle.kb_chain.proofs.literal_set.LiteralSet.remove_last.Goals as goal
 
 pub invariant_of-self : goal.invariant_of-self
 invariant_of-self c =

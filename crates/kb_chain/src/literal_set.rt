@@ -1,9 +1,10 @@
-//! The literals that unit propagation reaches, in their order.
+//! Sets of literals that keep the order in which they were put in.
 
 ghost use Rattle.std.specs.Prelude.{◌≡◌, ◌+◌, ◌*◌, ◌<◌, ◌≤◌, [], length, take, ◌-◌, OnOk, IfOk};
 ghost use Rattle.kb_chain.specs.Literal.{Literal, place_of, has};
 ghost use Rattle.kb_chain.specs.Working.{AreWithin};
 ghost use Rattle.kb_chain.specs.Index.{joined};
+ghost use Rattle.kb_chain.specs.Units.{StandOnce};
 
 use crate::NoMemory;
 use crate::literal::Lit;
@@ -11,14 +12,14 @@ use crate::marks::is_marked;
 use std::alloc::Global;
 use std::marker::Model;
 
-/// Literals in the order in which unit propagation reaches them.
+/// Literals, each once, in the order in which they were put in.
 #[derive(Drop)]
-pub(crate) struct Trail {
+pub struct LiteralSet {
     marks: Vec<bool>,
     reached: Vec<Lit>,
 }
 
-impl Model for Trail {
+impl Model for LiteralSet {
     ghost use Rattle.std.specs.Prelude.{length};
     ghost use Rattle.kb_chain.specs.Trail.{Reached, IsMarked};
 
@@ -32,24 +33,31 @@ impl Model for Trail {
     ghost invariant = { λ t. IsMarked t.marks.items t.reached.items };
 }
 
-impl Trail {
+impl LiteralSet {
     /// No literals of the variables up to `vars`.
-    pub(crate) fn new(alloc: Global, vars: u32) -> Result<Trail, NoMemory>
+    pub fn new(alloc: Global, vars: u32) -> Result<LiteralSet, NoMemory>
         ensures places { IfOk result (λ t. t.places ≡ 2 * vars + 2) }
         ensures literals { IfOk result (λ t. t.literals ≡ []) }
     {
         let marks = vec![in alloc; false; 2 * vars as usize + 2]?;
         let reached = Vec::new(alloc);
-        Ok(Trail { marks, reached })
+        Ok(LiteralSet { marks, reached })
     }
 
-    pub(crate) fn contains(&self, literal: Lit) -> bool
+    /// Nothing: it tells a proof that no literal stands twice.
+    pub fn tell_once(&self)
+        ensures { StandOnce self.now.literals }
+    {
+        let _marks = &self.marks;
+    }
+
+    pub fn contains(&self, literal: Lit) -> bool
         ensures { result ≡ has self.now.literals literal }
     {
         is_marked(self.marks.as_slice(), literal.place())
     }
 
-    pub(crate) fn literals(&self) -> &[Lit]
+    pub fn literals(&self) -> &[Lit]
         ensures value { result.now ≡ self.now.literals }
         ensures bound { length self.now.literals ≤ self.now.places }
         ensures within { AreWithin self.now.places self.now.literals }
@@ -58,7 +66,7 @@ impl Trail {
     }
 
     /// Puts a literal behind the others, if it is not there yet.
-    pub(crate) fn insert(&mut self, literal: Lit) -> Result<(), NoMemory>
+    pub fn insert(&mut self, literal: Lit) -> Result<(), NoMemory>
         requires { place_of literal < self.old.places }
         ensures ok { OnOk result (self.new.literals ≡ joined self.old.literals literal) }
         ensures places { self.new.places ≡ self.old.places }
@@ -73,7 +81,7 @@ impl Trail {
     }
 
     /// Goes back to the first `length` literals.
-    pub(crate) fn go_back(&mut self, length: usize)
+    pub fn go_back(&mut self, length: usize)
         ensures literals { self.new.literals ≡ take length self.old.literals }
         ensures places { self.new.places ≡ self.old.places }
     {

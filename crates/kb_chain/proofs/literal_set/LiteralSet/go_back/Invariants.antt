@@ -1,5 +1,5 @@
 use Rattle.std.proofs.Common.{◌≡◌, take, length}
-use Rattle.kb_chain.proofs.trail.Trail.go_back.Given as goal
+use Rattle.kb_chain.proofs.literal_set.LiteralSet.go_back.Given as goal
 
 abbrev pub invariant-loop-self : goal.invariant-loop-self
 invariant-loop-self l = record {
