@@ -2,6 +2,7 @@ pub mod Places
 pub mod ClausesLaws
 pub mod CompactLaws
 pub mod FlatLogLaws
+pub mod LeftOutLaws
 pub mod TrailLaws
 pub mod WatchLaws
 pub mod PairLaws

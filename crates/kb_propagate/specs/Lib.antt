@@ -8,3 +8,4 @@ pub mod Walking
 pub mod Base
 pub mod Forgetting
 pub mod Noted
+pub mod LeftOut
