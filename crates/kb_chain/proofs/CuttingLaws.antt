@@ -9,7 +9,7 @@ use Rattle.kb_chain.specs.Clause.{resolvent_of}
 use Rattle.kb_chain.specs.Chains.{resolved, entry_of, derived, IsRefutation}
 use Rattle.kb_chain.specs.Index.{has_number}
 use Rattle.kb_chain.specs.Needed.{cites, is_kept, IsNeeded}
-use Rattle.kb_chain.specs.Cutting.{Marking, marked_before, number_among, step_among, renumbered, marked_entries, IsCut}
+use Rattle.kb_chain.specs.Cutting.{Marking, marked_before, number_among, step_with, renumbered, marked_entries, IsCut}
 use Rattle.kb_chain.specs.declared.log.Chain.{Chain}
 use Rattle.kb_chain.proofs.NeededLaws.{get_past, get_front, get_behind, get_before, derived_length, kept_entry, needed_given}
 
@@ -37,25 +37,25 @@ number_past m i k le =
     let n : number_among m k ≡ m.first + marked_before m.marks (k - m.first) = ap (number_among m) (sym e) ∙ number_behind m (k - m.first) in
     omega (arith, r, n)
 
-step_same : (xs ys : List (List Literal)) (m : Marking) (o : Option (List Literal)) (s : ℕ × ℕ) → slice_get ys (number_among m s.1) ≡ slice_get xs s.1
-    → resolved ys o (step_among m s) ≡ resolved xs o s
+step_same : (xs ys : List (List Literal)) (number : ℕ → ℕ) (o : Option (List Literal)) (s : ℕ × ℕ) → slice_get ys (number s.1) ≡ slice_get xs s.1
+    → resolved ys o (step_with number s) ≡ resolved xs o s
 unfolding resolved
-step_same xs ys m o s e = ap (λ (z : Option (List Literal)). option_and_then (λ clause. option_and_then (λ side. resolvent_of clause side s.0) z) o) e
+step_same xs ys number o s e = ap (λ (z : Option (List Literal)). option_and_then (λ clause. option_and_then (λ side. resolvent_of clause side s.0) z) o) e
 
-steps_same : (xs ys : List (List Literal)) (m : Marking) (steps : List (ℕ × ℕ)) (o : Option (List Literal))
-    → ((k : ℕ) → list_any (λ (s : ℕ × ℕ). s.1 == k) steps ≡ true → slice_get ys (number_among m k) ≡ slice_get xs k)
-    → fold (resolved ys) o (map (step_among m) steps) ≡ fold (resolved xs) o steps
-steps_same xs ys m [] o h = refl
-steps_same xs ys m (s ∷ ss) o h =
-    ap (λ (z : Option (List Literal)). fold (resolved ys) z (map (step_among m) ss)) (step_same xs ys m o s (h s.1 (or_left _ _ (eq-eqb s.1 s.1 refl))))
-    ∙ steps_same xs ys m ss (resolved xs o s) (λ k e. h k (or_right _ _ e))
+steps_same : (xs ys : List (List Literal)) (number : ℕ → ℕ) (steps : List (ℕ × ℕ)) (o : Option (List Literal))
+    → ((k : ℕ) → list_any (λ (s : ℕ × ℕ). s.1 == k) steps ≡ true → slice_get ys (number k) ≡ slice_get xs k)
+    → fold (resolved ys) o (map (step_with number) steps) ≡ fold (resolved xs) o steps
+steps_same xs ys number [] o h = refl
+steps_same xs ys number (s ∷ ss) o h =
+    ap (λ (z : Option (List Literal)). fold (resolved ys) z (map (step_with number) ss)) (step_same xs ys number o s (h s.1 (or_left _ _ (eq-eqb s.1 s.1 refl))))
+    ∙ steps_same xs ys number ss (resolved xs o s) (λ k e. h k (or_right _ _ e))
 
--- a chain with new numbers gives what it gave, where the clauses that it cites have these numbers
-pub renumbered_same : (xs ys : List (List Literal)) (m : Marking) (chain : Chain)
-    → ((k : ℕ) → cites chain k ≡ true → slice_get ys (number_among m k) ≡ slice_get xs k) → entry_of ys (renumbered m chain) ≡ entry_of xs chain
-renumbered_same xs ys m chain h =
-    ap (λ (z : Option (List Literal)). fold (resolved ys) z (map (step_among m) chain.steps)) (h chain.start (or_left _ _ (eq-eqb chain.start chain.start refl)))
-    ∙ steps_same xs ys m chain.steps (slice_get xs chain.start) (λ k e. h k (or_right _ _ e))
+-- a chain with other numbers gives what it gave, where the clauses that it cites have these numbers
+pub renumbered_same : (xs ys : List (List Literal)) (number : ℕ → ℕ) (chain : Chain)
+    → ((k : ℕ) → cites chain k ≡ true → slice_get ys (number k) ≡ slice_get xs k) → entry_of ys (renumbered number chain) ≡ entry_of xs chain
+renumbered_same xs ys number chain h =
+    ap (λ (z : Option (List Literal)). fold (resolved ys) z (map (step_with number) chain.steps)) (h chain.start (or_left _ _ (eq-eqb chain.start chain.start refl)))
+    ∙ steps_same xs ys number chain.steps (slice_get xs chain.start) (λ k e. h k (or_right _ _ e))
 
 -- the clauses that stay have their new numbers
 abbrev pub HasMoved : Marking → List (List Literal) → List (List Literal) → Type 0
@@ -125,10 +125,10 @@ closed_now m i entry entries closed marked k c lt =
     closed 0 entry refl (ap (λ z. get_or m.marks z false) e ∙ marked) k c (omega (arith, lt))
 
 cut_marked : (m : Marking) (i : ℕ) (entry : Chain) (entries : List Chain) (all kept : List (List Literal)) (clause : List Literal) → get_or m.marks i false ≡ true
-    → entry_of kept (renumbered m entry) ≡ Some clause → CutDerives m (suc i) entries all (kept ++ clause ∷ []) → CutDerives m i (entry ∷ entries) all kept
+    → entry_of kept (renumbered (number_among m) entry) ≡ Some clause → CutDerives m (suc i) entries all (kept ++ clause ∷ []) → CutDerives m i (entry ∷ entries) all kept
 cut_marked m i entry entries all kept clause marked new r = record {
   clauses = r.clauses;
-  derives = ap (λ b. derived kept (cond b (renumbered m entry ∷ marked_entries m (suc i) entries) (marked_entries m (suc i) entries))) marked
+  derives = ap (λ b. derived kept (cond b (renumbered (number_among m) entry ∷ marked_entries m (suc i) entries) (marked_entries m (suc i) entries))) marked
       ∙ (ap (λ (o : Option (List Literal)). option_and_then (λ c. derived (kept ++ c ∷ []) (marked_entries m (suc i) entries)) o) new ∙ r.derives);
   moved = r.moved;
   count = r.count ∙ ap (λ z. m.first + marked_before m.marks z) (let e : suc i + length entries ≡ i + suc (length entries) = omega arith in e);
@@ -138,7 +138,7 @@ cut_skipped : (m : Marking) (i : ℕ) (entry : Chain) (entries : List Chain) (al
     → CutDerives m (suc i) entries all kept → CutDerives m i (entry ∷ entries) all kept
 cut_skipped m i entry entries all kept unmarked r = record {
   clauses = r.clauses;
-  derives = ap (λ b. derived kept (cond b (renumbered m entry ∷ marked_entries m (suc i) entries) (marked_entries m (suc i) entries))) unmarked ∙ r.derives;
+  derives = ap (λ b. derived kept (cond b (renumbered (number_among m) entry ∷ marked_entries m (suc i) entries) (marked_entries m (suc i) entries))) unmarked ∙ r.derives;
   moved = r.moved;
   count = r.count ∙ ap (λ z. m.first + marked_before m.marks z) (let e : suc i + length entries ≡ i + suc (length entries) = omega arith in e);
 }
@@ -158,7 +158,7 @@ cut_derives (entry ∷ entries) m i done all kept h size few moved closed =
     let size_more : length (done ++ clause ∷ []) ≡ m.first + suc i = omega (arith, more, size) in
     elim (cases_Bool (get_or m.marks i false)) [
       | inl t ↦ cut_marked m i entry entries all kept clause t
-          (renumbered_same done kept m entry (cited_moved m i done kept entry size few moved (closed_now m i entry entries closed t)) ∙ f)
+          (renumbered_same done kept (number_among m) entry (cited_moved m i done kept entry size few moved (closed_now m i entry entries closed t)) ∙ f)
           (cut_derives entries m (suc i) (done ++ clause ∷ []) all (kept ++ clause ∷ []) g size_more
           (length_push kept clause ∙ counted_more m i (length kept) few t)
           (moved_more m i done kept clause size few moved) (closed_later m i entry entries closed))
@@ -233,8 +233,8 @@ marked_shorter m i [] = omega arith
 marked_shorter m i (entry ∷ entries) =
     let r : length (marked_entries m (suc i) entries) ≤ length entries = marked_shorter m (suc i) entries in
     elim (cases_Bool (get_or m.marks i false)) [
-      | inl t ↦ (let e = ap (λ b. length (cond b (renumbered m entry ∷ marked_entries m (suc i) entries) (marked_entries m (suc i) entries))) t in omega (arith, e, r))
-      | inr n ↦ (let e = ap (λ b. length (cond b (renumbered m entry ∷ marked_entries m (suc i) entries) (marked_entries m (suc i) entries))) n in omega (arith, e, r))
+      | inl t ↦ (let e = ap (λ b. length (cond b (renumbered (number_among m) entry ∷ marked_entries m (suc i) entries) (marked_entries m (suc i) entries))) t in omega (arith, e, r))
+      | inr n ↦ (let e = ap (λ b. length (cond b (renumbered (number_among m) entry ∷ marked_entries m (suc i) entries) (marked_entries m (suc i) entries))) n in omega (arith, e, r))
     ]
 
 pub cut_shorter : (first : ℕ) (entries cut : List Chain) → IsCut first entries cut → length cut ≤ length entries

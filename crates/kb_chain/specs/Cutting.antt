@@ -17,17 +17,18 @@ pub record Marking : Type 0 where
 abbrev pub number_among : Marking → ℕ → ℕ
 number_among m number = cond (nat_lt number m.first) number (m.first + marked_before m.marks (number - m.first))
 
-abbrev pub step_among : Marking → ℕ × ℕ → ℕ × ℕ
-step_among m step = (step.0, number_among m step.1)
+-- a chain whose clauses have other numbers
+abbrev pub step_with : (ℕ → ℕ) → ℕ × ℕ → ℕ × ℕ
+step_with number step = (step.0, number step.1)
 
-abbrev pub renumbered : Marking → Chain → Chain
-renumbered m chain = record { start = number_among m chain.start; steps = map (step_among m) chain.steps }
+abbrev pub renumbered : (ℕ → ℕ) → Chain → Chain
+renumbered number chain = record { start = number chain.start; steps = map (step_with number) chain.steps }
 
 -- the marked ones of these entries, of which the first has the number i
 abbrev pub marked_entries : Marking → ℕ → List Chain → List Chain
 marked_entries m i [] = []
 marked_entries m i (entry ∷ entries) =
-    cond (slice_index_or m.marks i false) (renumbered m entry ∷ marked_entries m (suc i) entries) (marked_entries m (suc i) entries)
+    cond (slice_index_or m.marks i false) (renumbered (number_among m) entry ∷ marked_entries m (suc i) entries) (marked_entries m (suc i) entries)
 
 -- the numbers of the first entries, as far as they are marked, and of the marked ones that come next
 abbrev pub numbers_before : Marking → ℕ → List ℕ

@@ -87,7 +87,7 @@ impl Numbering {
     }
 
     fn chain(&self, alloc: Global, chain: &Chain) -> Result<Chain, NoMemory>
-        ensures { IfOk result (λ later. later ≡ renumbered self.now chain.now) }
+        ensures { IfOk result (λ later. later ≡ renumbered (number_among self.now) chain.now) }
     {
         let mut steps = Row::new(alloc);
         let mut rest = chain.steps.as_slice();

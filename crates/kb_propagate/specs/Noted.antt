@@ -4,6 +4,7 @@ use Rattle.std.specs.Prelude.{◌≡◌, ℕ, ◌+◌, ◌<◌, ◌≤◌, true,
 use Rattle.kb_chain.specs.Literal.{Literal, has, negated}
 use Rattle.kb_chain.specs.Clause.{has_only, IsOrdered}
 use Rattle.kb_chain.specs.Chains.{entry_of}
+use Rattle.kb_chain.specs.Propagation.{all_negated}
 use Rattle.kb_chain.specs.Units.{without_all, StandOnce}
 use Rattle.kb_chain.specs.declared.log.Chain.{Chain}
 use Rattle.kb_propagate.specs.Trail.{Assigned, level_zero}
@@ -50,3 +51,12 @@ pub record IsNotedLog (formula : List (List Literal)) (entries : List Chain) (le
       → IsNotedEntry t clauses (length formula + i) chain literals
   pub shown : AreShown clauses rows
   pub justified : IsJustified clauses rows t
+
+-- the clause of this number is stored as it is, and false
+pub record IsNotedConflict (clauses rows : List (List Literal)) (t : Assigned) (number : ℕ) : Type 0 where
+  pub clause : List Literal
+  pub row : List Literal
+  pub numbered : slice_get clauses number ≡ Some clause
+  pub stored : slice_get rows number ≡ Some row
+  pub same : (l : Literal) → has row l ≡ has clause l
+  pub false_all : all_negated (has t.literals) row ≡ true

@@ -13,6 +13,7 @@ use crate::NoMemory;
 use crate::begin::watch_all;
 use crate::clauses::Clauses;
 use crate::flat_log::FlatLog;
+use crate::left_out::LeftOut;
 use crate::propagation::propagate;
 use crate::trail::Trail;
 use crate::watches::Watches;
@@ -25,6 +26,8 @@ pub struct Base<'a> {
     pub formula: &'a Formula,
     /// The derivations of the clauses that came to those of the formula.
     pub entries: FlatLog,
+    /// What the clauses of the entries leave out, since it was false at level 0.
+    pub left_out: LeftOut,
     pub clauses: Clauses,
     pub watches: Watches,
     pub trail: Trail,
@@ -57,6 +60,7 @@ impl<'a> Base<'a> {
         let base = Base {
             formula,
             entries: FlatLog::new(alloc),
+            left_out: LeftOut::new(alloc),
             clauses,
             watches,
             trail,

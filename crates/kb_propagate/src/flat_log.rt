@@ -80,15 +80,24 @@ impl FlatLog {
         Ok(Log { entries })
     }
 
+    /// The number with which an entry begins, and its steps.
+    pub fn entry(&self, number: usize) -> (u32, &[(u32, u32)])
+        requires { number < length self.now }
+        ensures { slice_get self.now number ≡ Some (record { start = result.0; steps = result.1.now }) }
+    {
+        let entry = self.entries[number];
+        let steps = &self.steps[entry.steps.start as usize..entry.steps.end as usize];
+        (entry.start, steps)
+    }
+
     /// The entry of this number.
     fn chain(&self, alloc: Global, number: usize) -> Result<Chain, NoMemory>
         requires { number < length self.now }
         ensures { IfOk result (λ chain. slice_get self.now number ≡ Some chain) }
     {
-        let entry = self.entries[number];
-        let steps = &self.steps[entry.steps.start as usize..entry.steps.end as usize];
+        let (start, steps) = self.entry(number);
         Ok(Chain {
-            start: entry.start,
+            start,
             steps: Row::from_vec(steps.to_vec(alloc)?),
         })
     }

@@ -5,5 +5,6 @@ pub mod ReasonLaws
 pub mod LevelLaws
 pub mod MinimiseLaws
 pub mod AnalysisLaws
+pub mod WritingLaws
 pub mod RefuteLaws
 pub mod LearnLaws

@@ -3,3 +3,4 @@ pub mod Analysis
 pub mod Search
 pub mod Solver
 pub mod Answer
+pub mod Writing

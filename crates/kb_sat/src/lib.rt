@@ -12,6 +12,7 @@ mod pick;
 mod ranks;
 mod search;
 mod solver;
+mod writing;
 
 pub use counts::Counts;
 pub use kb_propagate::NoMemory;
