@@ -11,7 +11,7 @@ use Rattle.kb_chain.specs.Index.{has_number}
 use Rattle.kb_chain.specs.Needed.{cites, is_kept, IsNeeded}
 use Rattle.kb_chain.specs.Cutting.{Marking, marked_before, number_among, step_with, renumbered, marked_entries, IsCut}
 use Rattle.kb_chain.specs.declared.log.Chain.{Chain}
-use Rattle.kb_chain.proofs.NeededLaws.{get_past, get_front, get_behind, get_before, derived_length, kept_entry, needed_given}
+use Rattle.kb_chain.proofs.NeededLaws.{get_past, get_front, get_behind, get_before, get_inside, derived_length, kept_entry, needed_given}
 
 -- marks that come later count no less
 marked_rises : (marks : List Bool) (i j : ℕ) → i ≤ j → marked_before marks i ≤ marked_before marks j
@@ -184,17 +184,12 @@ ends_in (x ∷ []) y zero e n = let s : x ≡ y = cc in ([], ap (λ z. z ∷ [])
 ends_in (x ∷ z ∷ zs) y zero e n = absurd (omega (arith, n))
 ends_in (x ∷ xs) y (suc k) e n = let r = ends_in xs y k e (omega (arith, n)) in (x ∷ r.0, ap (λ z. x ∷ z) r.1)
 
-entry_inside : (entries : List Chain) (i : ℕ) (entry : Chain) → slice_get entries i ≡ Some entry → i < length entries
-entry_inside [] i entry e = cc
-entry_inside (x ∷ xs) zero entry e = omega arith
-entry_inside (x ∷ xs) (suc i) entry e = let r = entry_inside xs i entry e in omega (arith, r)
-
 -- the marks of what is needed are closed
 needed_closed : (first : ℕ) (entries cut : List Chain) (h : IsCut first entries cut) → StaysClosed (record { first = first; marks = h.marks }) 0 entries
 needed_closed first entries cut h j entry at marked k c lt = elim (cases_lt k first) [
   | inl below ↦ or_left _ _ (lt-ltb k first below)
   | inr ge ↦
-      (let inside : j < length entries = entry_inside entries j entry at in
+      (let inside : j < length entries = get_inside entries j entry at in
       let e : first + (k - first) ≡ k = omega (arith, ge) in
       or_right (nat_lt k first) _ (h.needed (k - first) (omega (arith, lt, ge, inside)) (λ set given closed.
       closed j entry at (h.only j marked set given closed) (first + (k - first)) (ap (cites entry) e ∙ c) (omega (arith, e, lt)))))

@@ -1,6 +1,6 @@
 -- Entries that are needed, and the clauses that they derive.
 use Rattle.std.proofs.Common.{◌≡◌, ℕ, ◌+◌, ◌-◌, ◌<◌, ◌≤◌, ◌==◌, nat_lt, List, [], ◌∷◌, ◌++◌, Bool, true, false, arith, refl, ap, sym, ◌∙◌, inl, inr, ◌⊎◌, subst, Option, Some, None, option_and_then, slice_get, fold, zero, suc, length, get_or}
-use Rattle.std.proofs.lemmas.Bool.{or_cases, or_left, or_right, false≢true, eq-eqb, cases_eq, cases_lt, ltb-true, false_from_ne_true}
+use Rattle.std.proofs.lemmas.Bool.{or_cases, or_left, or_right, false≢true, eq-eqb, eqb-true, cases_eq, cases_lt, ltb-true, false_from_ne_true}
 use Rattle.std.proofs.lemmas.Option.{option_and_then_some}
 use Rattle.std.proofs.lemmas.List.{length_push}
 use Rattle.std.specs.Prelude.{IsSomeAnd}
@@ -11,6 +11,7 @@ use Rattle.kb_chain.specs.Index.{has_number}
 use Rattle.kb_chain.specs.Chains.{resolved, entry_of, derived}
 use Rattle.kb_chain.specs.Needed.{cites, is_kept, AreClosed, IsNeeded, SkipsOthers}
 use Rattle.kb_chain.specs.declared.log.Chain.{Chain}
+use Rattle.kb_chain.proofs.Soundness.{fold_none}
 
 resolved_same : (xs ys : List (List Literal)) (o : Option (List Literal)) (s : ℕ × ℕ) → slice_get xs s.1 ≡ slice_get ys s.1 → resolved xs o s ≡ resolved ys o s
 unfolding resolved
@@ -212,3 +213,39 @@ pub skips_others : (first size : ℕ) (entries : List Chain) (numbers : List ℕ
     → ((i : ℕ) → i < length entries → get_or read i false ≡ false → slice_get clauses (first + i) ≡ Some []) → SkipsOthers first entries numbers clauses
 skips_others first size entries numbers marks read clauses e f only skipped i lt not_needed =
     skipped i lt (false_from_ne_true _ (λ t. not_needed (subst (λ z. IsNeeded z entries numbers (z + i)) e (only i (ap (λ z. get_or z i false) (sym f) ∙ t)))))
+
+pub get_inside : {X : Type 0} (xs : List X) (k : ℕ) (x : X) → slice_get xs k ≡ Some x → k < length xs
+get_inside [] k x e = cc
+get_inside (y ∷ ys) zero x e = omega arith
+get_inside (y ∷ ys) (suc k) x e = let r = get_inside ys k x e in omega (arith, r)
+
+resolved_nowhere : (xs : List (List Literal)) (o : Option (List Literal)) (s : ℕ × ℕ) → slice_get xs s.1 ≡ None → resolved xs o s ≡ None
+unfolding resolved
+resolved_nowhere xs None s e = refl
+resolved_nowhere xs (Some c) s e = ap (λ (z : Option (List Literal)). option_and_then (λ side. resolvent_of c side s.0) z) e
+
+steps_inside : (xs : List (List Literal)) (steps : List (ℕ × ℕ)) (o : Option (List Literal)) (clause : List Literal) → fold (resolved xs) o steps ≡ Some clause
+    → (k : ℕ) → list_any (λ (s : ℕ × ℕ). s.1 == k) steps ≡ true → k < length xs
+steps_inside xs [] o clause e k c = absurd (false≢true c)
+steps_inside xs (s ∷ ss) o clause e k c = elim (or_cases (s.1 == k) (list_any (λ (s : ℕ × ℕ). s.1 == k) ss) c) [
+  | inl t ↦ subst (λ z. z < length xs) (eqb-true s.1 k t) (here (slice_get xs s.1) refl)
+  | inr t ↦ steps_inside xs ss (resolved xs o s) clause e k t
+]
+  where
+    here : (side : Option (List Literal)) → slice_get xs s.1 ≡ side → s.1 < length xs
+    here (Some side) f = get_inside xs s.1 side f
+    here None f =
+        let n : None ≡ Some clause = sym (ap (λ z. fold (resolved xs) z ss) (resolved_nowhere xs o s f) ∙ fold_none xs ss) ∙ e in cc
+
+-- what a chain cites is there, where it gives a clause
+pub cited_inside : (xs : List (List Literal)) (chain : Chain) (clause : List Literal) → entry_of xs chain ≡ Some clause → (k : ℕ) → cites chain k ≡ true → k < length xs
+cited_inside xs chain clause e k c =
+    elim (or_cases (chain.start == k) (list_any (λ (s : ℕ × ℕ). s.1 == k) chain.steps) c) [
+      | inl t ↦ subst (λ z. z < length xs) (eqb-true chain.start k t) (here (slice_get xs chain.start) refl)
+      | inr t ↦ steps_inside xs chain.steps (slice_get xs chain.start) clause e k t
+    ]
+  where
+    here : (start : Option (List Literal)) → slice_get xs chain.start ≡ start → chain.start < length xs
+    here (Some start) f = get_inside xs chain.start start f
+    here None f =
+        let n : None ≡ Some clause = sym (ap (λ z. fold (resolved xs) z chain.steps) f ∙ fold_none xs chain.steps) ∙ e in cc

@@ -2,12 +2,15 @@
 use Rattle.std.proofs.Common.{◌≡◌, ℕ, ◌+◌, ◌<◌, ◌≤◌, List, [], ◌∷◌, ◌++◌, Bool, true, false, ◌&&◌, not, arith, refl, ap, sym, ◌∙◌, inl, inr, ◌⊎◌, subst, length, get_or, set, take, zero, suc, Some, None, slice_get, Option, option_and_then, fold, length-set}
 use Rattle.std.proofs.lemmas.Bool.{false≢true, and_parts, and_from, not-true, false_from_ne_true, cases_Bool, or_right}
 use Rattle.std.proofs.lemmas.List.{take_all, take-append-le, length_push}
+use Rattle.std.proofs.lemmas.Option.{cond_some, option_and_then_some}
 use Rattle.kb_chain.specs.Literal.{Literal, has, negated}
-use Rattle.kb_chain.specs.Clause.{IsOrdered, has_only}
-use Rattle.kb_chain.specs.Chains.{entry_of}
+use Rattle.kb_chain.specs.Clause.{IsOrdered, has_only, clause_of, without, are_opposite, resolvent_of}
+use Rattle.kb_chain.specs.Chains.{entry_of, resolved}
 use Rattle.kb_chain.specs.Units.{without_all, StandOnce}
 use Rattle.kb_chain.specs.declared.log.Chain.{Chain}
 use Rattle.kb_chain.proofs.LiteralLaws.{has_head, negated-negated, same_variable}
+use Rattle.kb_chain.proofs.Soundness.{fold_none}
+use Rattle.kb_chain.proofs.OrderLaws.{IsOrdered-clause_of}
 use Rattle.kb_chain.proofs.UnitLaws.{has-without_all, has-without_all_from, IsOrdered-without_all}
 use Rattle.kb_propagate.specs.Trail.{Assigned, IsTrail, HasReasons, level_zero, level_start, cut_back}
 use Rattle.kb_propagate.specs.Rows.{AreReordered}
@@ -267,3 +270,33 @@ row_is_rest t clause literals row h false_all exact rest l = go (has row l) (has
           | inl s ↦ absurd (p.1 l (exact l ∙ and_from _ _ p.0 s) refl)
           | inr s ↦ absurd (false≢true (sym e ∙ (rest l ∙ and_from _ _ p.0 (ap not s))))
         ]
+
+-- clauses in order
+
+resolvent_ordered : (left right clause : List Literal) (pivot : ℕ) → resolvent_of left right pivot ≡ Some clause → IsOrdered clause
+resolvent_ordered left right clause pivot e =
+    let parts = cond_some (are_opposite left right pivot) (clause_of (without pivot (left ++ right))) clause e in
+    subst (λ z. IsOrdered z) parts.1 (IsOrdered-clause_of (without pivot (left ++ right)))
+
+steps_ordered : (clauses : List (List Literal)) (steps : List (ℕ × ℕ)) (start clause : List Literal) → fold (resolved clauses) (Some start) steps ≡ Some clause
+    → IsOrdered start → IsOrdered clause
+unfolding resolved
+steps_ordered clauses [] start clause e ordered = let s : start ≡ clause = cc in subst (λ z. IsOrdered z) s ordered
+steps_ordered clauses (s ∷ ss) start clause e ordered =
+    go (resolved clauses (Some start) s) refl e (λ next. steps_ordered clauses ss next clause)
+  where
+    go : (o : Option (List Literal)) → resolved clauses (Some start) s ≡ o → fold (resolved clauses) o ss ≡ Some clause
+        → ((next : List Literal) → fold (resolved clauses) (Some next) ss ≡ Some clause → IsOrdered next → IsOrdered clause)
+        → IsOrdered clause
+    go None d f rec = let w : None ≡ Some clause = sym (fold_none clauses ss) ∙ f in cc
+    go (Some next) d f rec =
+        rec next f (option_and_then_some (λ side. resolvent_of start side s.0) (slice_get clauses s.1) next d
+        (λ side g r. resolvent_ordered start side next s.0 r))
+
+-- what a chain gives from clauses in order is in order
+pub entry_ordered : (clauses : List (List Literal)) (chain : Chain) (clause : List Literal) → AllOrdered clauses → entry_of clauses chain ≡ Some clause → IsOrdered clause
+entry_ordered clauses chain clause all e = go (slice_get clauses chain.start) refl e
+  where
+    go : (o : Option (List Literal)) → slice_get clauses chain.start ≡ o → fold (resolved clauses) o chain.steps ≡ Some clause → IsOrdered clause
+    go None d f = let w : None ≡ Some clause = sym (fold_none clauses chain.steps) ∙ f in cc
+    go (Some start) d f = steps_ordered clauses chain.steps start clause f (all chain.start start d)

@@ -8,3 +8,4 @@ pub mod AnalysisLaws
 pub mod WritingLaws
 pub mod RefuteLaws
 pub mod LearnLaws
+pub mod LeftOutLaws

@@ -81,6 +81,17 @@ pub record IsReached (clauses : List (List Literal)) (number : ℕ) (steps : Lis
   pub derives : fold (resolved clauses) (slice_get clauses number) steps ≡ Some clause
   pub held : IsHeld literals low end seen row clause
 
+-- of the clause to which the steps lead, those literals are noted that are false before a position
+pub record IsExact (clauses : List (List Literal)) (number : ℕ) (steps : List (ℕ × ℕ)) (literals : List Literal) (low : ℕ) (left_out : List Literal) : Type 0 where
+  pub clause : List Literal
+  pub derives : fold (resolved clauses) (slice_get clauses number) steps ≡ Some clause
+  pub exact : (l : Literal) → has left_out l ≡ (has clause l && has (take low literals) (negated l))
+
+-- the literals of a row but the pivot's that are false before a position are noted besides
+abbrev pub NotesOthers : List Literal → ℕ → Option ℕ → List Literal → List Literal → List Literal → Type 0
+NotesOthers literals low pivot row old new =
+    (l : Literal) → has new l ≡ (has old l || (has row l && (not (is_pivot pivot l.variable) && has (take low literals) (negated l))))
+
 -- the highest marked position below one
 pub record IsLastSeen (literals : List Literal) (seen : List Bool) (end p : ℕ) : Type 0 where
   pub below : p < end
