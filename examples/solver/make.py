@@ -38,7 +38,7 @@ def pigeon_rows():
         yield "solve 100000: refuted"
     yield "# Before there were so many conflicts the clauses were reduced. The first search eliminates variables."
     yield "exceeds 100000 1000: refuted true"
-    yield "eliminates 100000: true"
+    yield "searches 100000: refuted 1"
     yield pigeons(5, 5)
     yield "solve 100000: model"
     yield pigeons(11, 10)
@@ -48,6 +48,7 @@ def pigeon_rows():
         yield f"restarts {budget}: {budget + 1} {restarts}"
     yield "# A greater budget that is spent is searched anew, and the conflicts of both searches count."
     yield "exceeds 5000 5001: open true"
+    yield "searches 5000: open 2"
 
 
 def ring_rows():
@@ -58,7 +59,18 @@ def ring_rows():
         clauses = [clause for here, there in pairs for clause in ([here, there], [-here, -there])]
         yield formula(f"ring-{size}", size, clauses)
         yield f"solve 100000: {'refuted' if size % 2 else 'model'}"
-        yield "eliminates 100000: true" if size % 2 else f"counts 100000: {size} 0 0 0"
+        yield "searches 100000: refuted 1" if size % 2 else f"counts 100000: {size} 0 0 0"
+
+
+def unit_rows():
+    """Clauses that make one literal after the other true, and the last one false: unit propagation alone refutes them, so that
+    no answer but a refutation is possible, within one entry."""
+    for size in (1, 10, 1000):
+        clauses = [[1]] + [[-place, place + 1] for place in range(1, size)] + [[-size]]
+        yield formula(f"units-{size}", size, clauses)
+        yield "solve 1: refuted"
+        yield "entries 1: 1"
+        yield "solve 100000: refuted"
 
 
 def numbers(seed):
@@ -132,6 +144,7 @@ def solver_rows():
     rows = (HERE / "by_hand.text").read_text().splitlines()
     rows += ["", "# Pigeons fit into as many holes, and not into fewer."] + list(pigeon_rows())
     rows += ["", "# Variables in a ring, each unlike the next one. An odd ring has no model."] + list(ring_rows())
+    rows += ["", "# Literals that force one another."] + list(unit_rows())
     rows += ["", "# Clauses of three of twenty variables, decided by their truth table (examples/solver/make.py)."] + list(random_rows())
     return rows
 

@@ -192,7 +192,7 @@ needed_closed first entries cut h j entry at marked k c lt = elim (cases_lt k fi
       (let inside : j < length entries = get_inside entries j entry at in
       let e : first + (k - first) ≡ k = omega (arith, ge) in
       or_right (nat_lt k first) _ (h.needed (k - first) (omega (arith, lt, ge, inside)) (λ set given closed.
-      closed j entry at (h.only j marked set given closed) (first + (k - first)) (ap (cites entry) e ∙ c) (omega (arith, e, lt)))))
+      closed j entry at (h.only j (ap (λ z. get_or h.marks z false) (let z : j ≡ 0 + j = omega arith in z) ∙ marked) set given closed) (first + (k - first)) (ap (cites entry) e ∙ c) (omega (arith, e, lt)))))
 ]
 
 -- what is left of a refutation is one

@@ -126,11 +126,11 @@ AreShown-reordered clauses rows later shown reordered k clause row e f some l =
     let inside = at_inside later k row f in
     let before = at_within rows k (let n = reordered.count in omega (arith, inside, n)) in
     reordered.each k before.0 row before.1 f l
-    ∙ shown k clause before.0 e before.1 (there row some (reordered.each k before.0 row before.1 f)) l
+    ∙ shown k clause before.0 e before.1 (there before.0 row some (reordered.each k before.0 row before.1 f)) l
   where
-    there : {old : List Literal} (new : List Literal) → 0 < length new → ((m : Literal) → has new m ≡ has old m) → 0 < length old
-    there {old} [] some same = absurd (omega (arith, some))
-    there {old} (x ∷ xs) some same = some_in old x (sym (same x) ∙ has_head x xs)
+    there : (old new : List Literal) → 0 < length new → ((m : Literal) → has new m ≡ has old m) → 0 < length old
+    there old [] some same = absurd (omega (arith, some))
+    there old (x ∷ xs) some same = some_in old x (sym (same x) ∙ has_head x xs)
 
 pub AreShown-deleted : (clauses rows : List (List Literal)) (n : ℕ) → AreShown clauses rows → AreShown clauses (set rows n [])
 AreShown-deleted clauses rows n shown k clause row e f some = elim (at_set rows n [] k row f) [

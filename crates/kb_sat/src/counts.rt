@@ -11,9 +11,19 @@ pub struct Counts {
     pub conflicts: u64,
     /// Returns to level 0 that no conflict asked for.
     pub restarts: u64,
+    /// Searches that were begun.
+    pub searches: u64,
 }
 
 impl Counts {
+    /// Those of a search that begins.
+    pub(crate) fn of_one_search() -> Counts {
+        Counts {
+            searches: 1,
+            ..Counts::default()
+        }
+    }
+
     pub(crate) fn note_decision(&mut self) {
         self.decisions = self.decisions.saturating_add(1);
     }
@@ -35,6 +45,7 @@ impl Counts {
             propagations: self.propagations.saturating_add(other.propagations),
             conflicts: self.conflicts.saturating_add(other.conflicts),
             restarts: self.restarts.saturating_add(other.restarts),
+            searches: self.searches.saturating_add(other.searches),
         }
     }
 }

@@ -57,7 +57,7 @@ impl<'a> Search<'a> {
             phases,
             marks,
             ranks: Ranks::new(alloc),
-            counts: Counts::default(),
+            counts: Counts::of_one_search(),
         };
         Ok((Held::new(alloc, search)?, conflict))
     }

@@ -4,9 +4,10 @@ ghost use Rattle.kb_propagate.specs.Base.{IsReady, Stands};
 
 use crate::assignments::judged_bits;
 use crate::formulas::read_log;
+use crate::log_lines::{append_lines, log_text};
 use kb_chain::{
     Chain, Clause, Formula, Log, ResolveStop, Row, Store, Verdict, check_fresh, check_refutation,
-    derive_needed, resolve,
+    cut, derive_needed, resolve,
 };
 use kb_eliminate::{Eliminated, EliminationBounds, eliminate, restored};
 use kb_propagate::Base;
@@ -48,7 +49,8 @@ fn append_of_search(
         "counts" => append_counts(counts, into),
         "restarts" => append_restarts(counts, into),
         "exceeds" => append_exceeds(solved, counts, words, into),
-        "eliminates" => append_eliminates(solved, counts, into),
+        "searches" => append_searches(solved, counts, into),
+        "entries" => append_entries(solved, into),
         "front" => append_front(alloc, formula, solved, into),
         _ => Err(RowStop::Malformed),
     }
@@ -70,6 +72,7 @@ fn append_counts(counts: Counts, into: &mut String) -> RowResult<()> {
         propagations,
         conflicts,
         restarts,
+        ..
     } = counts;
     Ok(write!(into, "{decisions} {propagations} {conflicts} {restarts}")?)
 }
@@ -87,24 +90,33 @@ fn append_exceeds(
     least: &str,
     into: &mut String,
 ) -> RowResult<()> {
-    let said = match solved {
-        Solved::Sat(_) => "model",
-        Solved::Unsat(_) => "refuted",
-        Solved::Undecided(_) => "open",
-    };
+    let said = said(solved);
     let more = counts.conflicts > u64::from(read_number(least)?);
     Ok(write!(into, "{said} {more}")?)
 }
 
-/// Appends whether the refutation has more entries than there were conflicts. Each conflict gives one entry; the others are
-/// resolvents by which the first search eliminated variables. Were it the second one that refutes, the conflicts of both would
-/// count.
-fn append_eliminates(solved: &Solved, counts: Counts, into: &mut String) -> RowResult<()> {
-    let more = match solved {
-        Solved::Unsat(log) => log.entries.as_slice().len() as u64 > counts.conflicts,
-        Solved::Sat(_) | Solved::Undecided(_) => false,
+/// Appends what the solver says, unchecked, and how many searches it made: where the budget is great, the first one eliminates
+/// variables and lets clauses go, and a second one follows only where the first decides nothing.
+fn append_searches(solved: &Solved, counts: Counts, into: &mut String) -> RowResult<()> {
+    let searches = counts.searches;
+    Ok(write!(into, "{} {searches}", said(solved))?)
+}
+
+/// Appends how many entries the refutation has.
+fn append_entries(solved: &Solved, into: &mut String) -> RowResult<()> {
+    let Solved::Unsat(log) = solved else {
+        return Err(RowStop::Malformed);
     };
-    Ok(write!(into, "{more}")?)
+    let entries = log.entries.as_slice().len();
+    Ok(write!(into, "{entries}")?)
+}
+
+fn said(solved: &Solved) -> &'static str {
+    match solved {
+        Solved::Sat(_) => "model",
+        Solved::Unsat(_) => "refuted",
+        Solved::Undecided(_) => "open",
+    }
 }
 
 /// Appends whether the entries of the refutation before the last one are fresh.
@@ -165,6 +177,18 @@ fn append_verdict(verdict: Verdict, into: &mut String) -> RowResult<()> {
         Verdict::Good => Ok(into.push_str("good")?),
         Verdict::Bad(entry) => Ok(write!(into, "bad {entry}")?),
     }
+}
+
+/// Appends the lines of what the last entry of a log needs of it.
+pub fn append_cut(
+    alloc: Global,
+    formula: &Formula,
+    text: &str,
+    into: &mut String,
+) -> RowResult<()> {
+    let log = read_log(alloc, text)?;
+    let left = kept(cut(alloc, formula, log.entries.as_slice()))?;
+    append_lines(log_text(alloc, b"", &left)?.as_str(), into)
 }
 
 /// Appends the resolvent of the clauses at the first two numbers, with the third one as the pivot.
