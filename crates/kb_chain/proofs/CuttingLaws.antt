@@ -1,15 +1,15 @@
 -- What the entries that stay derive, by their new numbers.
-use Rattle.std.proofs.Common.{◌≡◌, ℕ, ◌+◌, ◌-◌, ◌<◌, ◌≤◌, ◌==◌, nat_lt, List, [], ◌∷◌, ◌++◌, Bool, true, false, cond, arith, refl, ap, sym, ◌∙◌, inl, inr, subst, Option, Some, None, option_and_then, slice_get, fold, map, zero, suc, length, get_or}
-use Rattle.std.proofs.lemmas.Bool.{or_left, or_right, false≢true, eq-eqb, cases_eq, cases_lt, cases_Bool, lt-ltb, le-ltb, cond-true, cond-false}
+use Rattle.std.proofs.Common.{◌≡◌, ℕ, ◌+◌, ◌-◌, ◌<◌, ◌≤◌, ◌==◌, nat_lt, List, [], ◌∷◌, ◌++◌, Bool, true, false, cond, arith, refl, ap, sym, ◌∙◌, inl, inr, subst, Option, Some, None, option_and_then, slice_get, fold, map, zero, suc, length, get_or, drop, add-one, drop-cons}
+use Rattle.std.proofs.lemmas.Bool.{or_left, or_right, or_cases, false≢true, eq-eqb, eqb-true, cases_eq, cases_lt, cases_Bool, lt-ltb, le-ltb, cond-true, cond-false}
 use Rattle.std.proofs.lemmas.Option.{option_and_then_some}
-use Rattle.std.proofs.lemmas.List.{length_push}
+use Rattle.std.proofs.lemmas.List.{length_push, get_or_past}
 use Rattle.std.specs.List.{list_any}
 use Rattle.kb_chain.specs.Literal.{Literal}
 use Rattle.kb_chain.specs.Clause.{resolvent_of}
 use Rattle.kb_chain.specs.Chains.{resolved, entry_of, derived, IsRefutation}
 use Rattle.kb_chain.specs.Index.{has_number}
-use Rattle.kb_chain.specs.Needed.{cites, is_kept, IsNeeded}
-use Rattle.kb_chain.specs.Cutting.{Marking, marked_before, number_among, step_with, renumbered, marked_entries, IsCut}
+use Rattle.kb_chain.specs.Needed.{cites, is_kept, AreClosed, IsNeeded}
+use Rattle.kb_chain.specs.Cutting.{Marking, marked_before, number_among, step_with, renumbered, marked_entries, numbers_before, IsCut}
 use Rattle.kb_chain.specs.declared.log.Chain.{Chain}
 use Rattle.kb_chain.proofs.NeededLaws.{get_past, get_front, get_behind, get_before, get_inside, derived_length, kept_entry, needed_given}
 
@@ -237,3 +237,106 @@ cut_shorter first entries cut h =
     let e = ap length h.shape in
     let r = marked_shorter (record { first = first; marks = h.marks }) 0 entries in
     omega (arith, e, r)
+
+-- how the numbers are read from their table
+
+marked_past : (marks : List Bool) (i : ℕ) → length marks ≤ i → marked_before marks i ≡ marked_before marks (length marks)
+marked_past marks zero le = ap (marked_before marks) (let e : 0 ≡ length marks = omega (arith, le) in e)
+marked_past marks (suc i) le = elim (cases_eq (length marks) (suc i)) [
+  | inl s ↦ ap (marked_before marks) (sym s)
+  | inr n ↦
+      (let below : length marks ≤ i = omega (arith, le, n) in
+      let none : get_or marks i false ≡ false = get_or_past marks i false below in
+      let more : marked_before marks (suc i) ≡ marked_before marks i + 0 = ap (λ b. marked_before marks i + cond b 1 0) none in
+      let same = marked_past marks i below in
+      omega (arith, more, same))
+]
+
+pub numbers_length : (m : Marking) (n : ℕ) → length (numbers_before m n) ≡ n
+numbers_length m zero = refl
+numbers_length m (suc n) =
+    let more = length_push (numbers_before m n) (m.first + marked_before m.marks n) in
+    let r = numbers_length m n in omega (arith, more, r)
+
+numbers_at : (m : Marking) (n i d : ℕ) → i < n → get_or (numbers_before m n) i d ≡ m.first + marked_before m.marks i
+numbers_at m zero i d lt = absurd (omega (arith, lt))
+numbers_at m (suc n) i d lt = elim (cases_eq i n) [
+  | inl s ↦ ap (λ z. get_or (numbers_before m n ++ (m.first + marked_before m.marks n) ∷ []) z d) s
+      ∙ (at_end (numbers_before m n) n (m.first + marked_before m.marks n) (numbers_length m n) ∙ ap (λ z. m.first + marked_before m.marks z) (sym s))
+  | inr o ↦ front (numbers_before m n) ((m.first + marked_before m.marks n) ∷ []) i (let size = numbers_length m n in omega (arith, lt, o, size))
+      ∙ numbers_at m n i d (omega (arith, lt, o))
+]
+  where
+    at_end : (xs : List ℕ) (k x : ℕ) → length xs ≡ k → get_or (xs ++ x ∷ []) k d ≡ x
+    at_end [] zero x e = refl
+    at_end [] (suc k) x e = absurd (omega (arith, e))
+    at_end (y ∷ ys) zero x e = absurd (omega (arith, e))
+    at_end (y ∷ ys) (suc k) x e = at_end ys k x (omega (arith, e))
+
+    front : (xs ys : List ℕ) (k : ℕ) → k < length xs → get_or (xs ++ ys) k d ≡ get_or xs k d
+    front [] ys k lt = absurd (omega (arith, lt))
+    front (x ∷ xs) ys zero lt = refl
+    front (x ∷ xs) ys (suc k) lt = front xs ys k (omega (arith, lt))
+
+number_from : (m : Marking) (number : ℕ) → m.first ≤ number → number_among m number ≡ m.first + marked_before m.marks (number - m.first)
+number_from m number le =
+    let e : m.first + (number - m.first) ≡ number = omega (arith, le) in
+    ap (number_among m) (sym e) ∙ number_behind m (number - m.first)
+
+pub number_read : (m : Marking) (items : List ℕ) (number x : ℕ) → items ≡ numbers_before m (length m.marks + 1) → m.first ≤ number → number - m.first < length m.marks
+    → x ≡ get_or items (number - m.first) x → x ≡ number_among m number
+number_read m items number x same le lt read =
+    read ∙ (ap (λ z. get_or z (number - m.first) x) same
+    ∙ (numbers_at m (length m.marks + 1) (number - m.first) x (omega (arith, lt)) ∙ sym (number_from m number le)))
+
+pub number_read_past : (m : Marking) (items : List ℕ) (number x : ℕ) → items ≡ numbers_before m (length m.marks + 1) → m.first ≤ number → length m.marks ≤ number - m.first
+    → x ≡ get_or items (length m.marks) x → x ≡ number_among m number
+number_read_past m items number x same le ge read =
+    read ∙ (ap (λ z. get_or z (length m.marks) x) same
+    ∙ (numbers_at m (length m.marks + 1) (length m.marks) x (omega arith)
+    ∙ (ap (λ z. m.first + z) (sym (marked_past m.marks (number - m.first) ge)) ∙ sym (number_from m number le))))
+
+-- how the marked entries are put together
+
+push_front : (xs : List Chain) (y : Chain) (ys : List Chain) → (xs ++ y ∷ []) ++ ys ≡ xs ++ (y ∷ ys)
+push_front [] y ys = refl
+push_front (x ∷ xs) y ys = ap (λ z. x ∷ z) (push_front xs y ys)
+
+rest_of : (m : Marking) (i : ℕ) (entries : List Chain) (d : Chain) → i < length entries
+    → marked_entries m i (drop i entries)
+    ≡ cond (get_or m.marks i false) (renumbered (number_among m) (get_or entries i d) ∷ marked_entries m (suc i) (drop (suc i) entries)) (marked_entries m (suc i) (drop (suc i) entries))
+rest_of m i entries d lt = ap (marked_entries m i) (drop-cons entries i d lt)
+
+pub marked_more : (m : Marking) (i : ℕ) (entries kept : List Chain) (d : Chain) → i < length entries → get_or m.marks i false ≡ true
+    → (kept ++ renumbered (number_among m) (get_or entries i d) ∷ []) ++ marked_entries m (i + 1) (drop (i + 1) entries) ≡ kept ++ marked_entries m i (drop i entries)
+marked_more m i entries kept d lt marked =
+    ap (λ k. (kept ++ renumbered (number_among m) (get_or entries i d) ∷ []) ++ marked_entries m k (drop k entries)) (add-one i)
+    ∙ (push_front kept (renumbered (number_among m) (get_or entries i d)) (marked_entries m (suc i) (drop (suc i) entries))
+    ∙ ap (λ z. kept ++ z) (sym (rest_of m i entries d lt ∙ cond-true (get_or m.marks i false) _ _ marked)))
+
+pub marked_less : (m : Marking) (i : ℕ) (entries kept : List Chain) (d : Chain) → i < length entries → get_or m.marks i false ≡ false
+    → kept ++ marked_entries m (i + 1) (drop (i + 1) entries) ≡ kept ++ marked_entries m i (drop i entries)
+marked_less m i entries kept d lt unmarked =
+    ap (λ k. kept ++ marked_entries m k (drop k entries)) (add-one i)
+    ∙ ap (λ z. kept ++ z) (sym (rest_of m i entries d lt ∙ cond-false (get_or m.marks i false) _ _ unmarked))
+
+-- the marks of what the last entry needs
+pub cut_is : (first : ℕ) (entries cut : List Chain) (marks : List Bool) (last : ℕ) → last ≡ first + (length entries - 1) → length marks ≡ length entries
+    → ((number : ℕ) → has_number (last ∷ []) number ≡ true → number < first + length entries → is_kept first marks number ≡ true)
+    → AreClosed first entries marks 0
+    → ((i : ℕ) → get_or marks i false ≡ true → IsNeeded first entries (last ∷ []) (first + i))
+    → cut ≡ marked_entries (record { first = first; marks = marks }) 0 entries → IsCut first entries cut
+cut_is first entries cut marks last is table marked closed only shape = record {
+  marks = marks;
+  table = table;
+  needed = λ i lt n. kept_entry first i marks (n (is_kept first marks)
+      (λ k e. marked k (ap (λ z. has_number (z ∷ []) k) is ∙ e) (inside i lt k e))
+      (λ j entry at kept k c below. closed j entry (omega arith) at (kept_entry first j marks kept) k c below));
+  only = λ i m. subst (λ z. IsNeeded first entries (z ∷ []) (first + i)) is (only i m);
+  shape = shape;
+}
+  where
+    inside : (i : ℕ) → i < length entries → (k : ℕ) → has_number ((first + (length entries - 1)) ∷ []) k ≡ true → k < first + length entries
+    inside i lt k e =
+        let s : first + (length entries - 1) ≡ k = elim (or_cases (first + (length entries - 1) == k) false e) [ inl t ↦ eqb-true (first + (length entries - 1)) k t | inr t ↦ absurd (false≢true t) ] in
+        omega (arith, s, lt)

@@ -65,7 +65,7 @@ impl Model for Numbering {
 impl Numbering {
     fn new(alloc: Global, first: u32, marks: Vec<bool>) -> Result<Numbering, NoMemory>
         requires { first + length marks.items < 2 ^ 32 }
-        ensures { IfOk result (λ n. n ≡ record { first = first; marks = marks.entry.items }) }
+        ensures { IfOk result (λ n. n ≡ record { first = first; marks = marks.items }) }
     {
         let numbers = numbers_of(alloc, first, marks.as_slice())?;
         Ok(Numbering {
@@ -83,7 +83,10 @@ impl Numbering {
             return number;
         }
         let entry = (number - self.first) as usize;
-        self.numbers[entry.min(self.marks.len())]
+        if entry < self.marks.len() {
+            return self.numbers[entry];
+        }
+        self.numbers[self.marks.len()]
     }
 
     fn chain(&self, alloc: Global, chain: &Chain) -> Result<Chain, NoMemory>

@@ -211,7 +211,7 @@ impl Writing {
     fn push(&mut self, chain: Chain) -> Result<u32, NoMemory>
         ensures number { IfOk result (λ number. number ≡ self.old.next) }
         ensures next { OnOk result (self.new.next ≡ self.old.next + 1) }
-        ensures entries { OnOk result (self.new.log.entries ≡ self.old.log.entries ++ chain.entry ∷ []) }
+        ensures entries { OnOk result (self.new.log.entries ≡ self.old.log.entries ++ chain ∷ []) }
         ensures numbers { OnOk result (self.new.numbers ≡ self.old.numbers) }
         ensures units { OnOk result (self.new.units ≡ self.old.units) }
     {
