@@ -342,7 +342,7 @@ fn add(
         return Ok(false);
     }
     let number = base.clauses.len();
-    add_resolvent(base, left, right, pivot, row.as_slice())?;
+    add_resolvent(alloc, base, left, right, pivot, row.as_slice())?;
     occurrences.add(number, row.as_slice())?;
     Ok(true)
 }

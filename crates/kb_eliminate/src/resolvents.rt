@@ -1,8 +1,9 @@
 //! Resolvents of stored clauses, as new clauses and entries of the log. Under proof.
-ghost use Rattle.std.specs.Prelude.{◌≡◌, ◌<◌, ◌==◌, ◌++◌, [], ◌∷◌, false, true, List, length, slice_get, Some, OnOk, IfOk, IfSome, IfNone};
+ghost use Rattle.std.specs.Prelude.{◌≡◌, ◌<◌, ◌==◌, ◌&&◌, ◌||◌, ◌++◌, [], ◌∷◌, false, true, List, length, slice_get, Some, OnOk, IfOk, IfSome, IfNone};
 ghost use Rattle.std.specs.Bool.{OnTrue};
 ghost use Rattle.kb_chain.specs.Literal.{Literal, has, negated};
 ghost use Rattle.kb_chain.specs.Clause.{has_only};
+ghost use Rattle.kb_chain.specs.Units.{StandOnce};
 ghost use Rattle.kb_eliminate.specs.Resolvents.{IsResolvent, IsMerged};
 ghost use Rattle.kb_propagate.specs.Rows.{rows_of, awake_clause};
 ghost use Rattle.kb_propagate.specs.Base.{Stands, IsReady};
@@ -110,9 +111,41 @@ fn of_variable(literals: &[Lit], variable: u32) -> Option<Lit>
     None
 }
 
+/// The literals of two clauses that are false, each once.
+fn left_out_of(alloc: Global, base: &Base<'_>, left: u32, right: u32) -> Result<Vec<Lit>, NoMemory>
+    requires left { left < length (rows_of base.now.clauses) }
+    requires right { right < length (rows_of base.now.clauses) }
+    ensures once { IfOk result (λ found. StandOnce found.items) }
+    ensures exact { IfOk result (λ found. (a b : List Literal) → slice_get (rows_of base.now.clauses) left ≡ Some a → slice_get (rows_of base.now.clauses) right ≡ Some b
+        → (l : Literal) → has found.items l ≡ ((has a l || has b l) && has base.now.trail.literals (negated l))) }
+{
+    let mut found = Vec::new(alloc);
+    push_false(&mut found, &base.trail, base.clauses.literals(left))?;
+    push_false(&mut found, &base.trail, base.clauses.literals(right))?;
+    Ok(found)
+}
+
+/// Puts the literals of a row that are false behind others, unless they are there.
+fn push_false(found: &mut Vec<Lit>, trail: &Trail, row: &[Lit]) -> Result<(), NoMemory>
+    requires { StandOnce found.old.items }
+    ensures once { OnOk result (StandOnce found.new.items) }
+    ensures exact { OnOk result ((l : Literal) → has found.new.items l ≡ (has found.old.items l || (has row.now l && has trail.now.literals (negated l)))) }
+{
+    for literal in row {
+        if !trail.is_false(*literal) {
+            continue;
+        }
+        if !contains(found.as_slice(), *literal) {
+            found.push(*literal)?;
+        }
+    }
+    Ok(())
+}
+
 /// Adds the resolvent of two clauses on a variable without a value: an entry of the log, and a clause that is watched. The base
 /// is whole no longer. Where the resolvent is one literal, it becomes true.
 pub fn add_resolvent(
+    alloc: Global,
     base: &mut Base<'_>,
     left: u32,
     right: u32,
@@ -137,6 +170,8 @@ pub fn add_resolvent(
 {
     base.trail.tell_trail();
     base.entries.push(left, &[(pivot.variable(), right)])?;
+    let left_out = left_out_of(alloc, base, left, right)?;
+    base.left_out.push(left_out.as_slice())?;
     let number = base.clauses.len();
     let first = row[0];
     base.clauses.push(row)?;

@@ -1,5 +1,5 @@
 -- The analysis of a conflict: a clause that is resolved on false literals from late to early, kept by marks of its variables.
-use Rattle.std.specs.Prelude.{◌≡◌, ℕ, ◌+◌, ◌-◌, ◌<◌, ◌≤◌, ◌==◌, nat_le, Bool, true, false, not, ◌&&◌, ◌||◌, cond, zero, suc, List, [], ◌∷◌, ◌++◌, length, take, Option, Some, None, slice_get, slice_index_or, fold, ◌⊎◌}
+use Rattle.std.specs.Prelude.{◌≡◌, ℕ, ◌+◌, ◌-◌, ◌*◌, ◌<◌, ◌≤◌, ◌==◌, nat_le, Bool, true, false, not, ◌&&◌, ◌||◌, cond, zero, suc, List, [], ◌∷◌, ◌++◌, length, take, Option, Some, None, slice_get, slice_index_or, fold, ◌⊎◌}
 use Rattle.kb_chain.specs.Literal.{Literal, literal, has, negated}
 use Rattle.kb_chain.specs.Propagation.{all_negated}
 use Rattle.kb_chain.specs.Chains.{resolved}
@@ -47,6 +47,7 @@ AreFalseBefore literals end pivot row =
 -- marks of variables from level 1 on that are assigned before a position, with how many are of the last level, and where the others stand
 pub record AreMarked (vars : ℕ) (literals : List Literal) (levels : Levels) (end : ℕ) (marks : Marks) : Type 0 where
   pub table : length marks.seen.items ≡ vars + 1
+  pub places : marks.left_out.places ≡ 2 * vars + 2
   pub inside : end ≤ length literals
   pub assigned : (v : ℕ) → is_seen marks.seen.items v ≡ true
       → (p : ℕ) × (l : Literal) × (slice_get literals p ≡ Some l) × (l.variable ≡ v) × (levels.zero ≤ p) × (p < end)
@@ -58,6 +59,7 @@ pub record AreMarked (vars : ℕ) (literals : List Literal) (levels : Levels) (e
 -- no variable is marked
 pub record IsClean (vars : ℕ) (marks : Marks) : Type 0 where
   pub table : length marks.seen.items ≡ vars + 1
+  pub places : marks.left_out.places ≡ 2 * vars + 2
   pub unseen : (v : ℕ) → is_seen marks.seen.items v ≡ false
   pub lower : marks.lower.items ≡ []
   pub pending : marks.pending ≡ 0

@@ -1,7 +1,7 @@
 //! Conflict analysis: the clause of the first unique implication point (Marques-Silva and Sakallah, 1999), with local
 //! minimisation (Sörensson and Biere, 2009), and the refutation from a conflict at level 0. Under proof: the chain of each
 //! clause gives it.
-ghost use Rattle.std.specs.Prelude.{◌≡◌, ℕ, ◌+◌, ◌-◌, ◌<◌, ◌≤◌, ◌==◌, ◌&&◌, ◌||◌, ◌⊎◌, not, true, false, List, [], ◌∷◌, length, take, slice_get, Some, None, OnOk, IfOk, IfSome, MatchOption};
+ghost use Rattle.std.specs.Prelude.{◌≡◌, ℕ, ◌+◌, ◌-◌, ◌*◌, ◌<◌, ◌≤◌, ◌==◌, ◌&&◌, ◌||◌, ◌⊎◌, not, true, false, List, [], ◌∷◌, length, take, slice_get, Some, None, OnOk, IfOk, IfSome, MatchOption};
 ghost use Rattle.std.specs.Bool.{OnTrue};
 ghost use Rattle.std.specs.List.{list_any};
 ghost use Rattle.std.specs.List.Sorted.{IsNonDecreasingBy};
@@ -13,12 +13,13 @@ ghost use Rattle.kb_chain.specs.Needed.{cites};
 ghost use Rattle.kb_propagate.specs.Trail.{level_start, before_level, HasReasons};
 ghost use Rattle.kb_propagate.specs.Store.{IsJustified};
 ghost use Rattle.kb_propagate.specs.Rows.{rows_of};
+ghost use Rattle.kb_propagate.specs.Noted.{AreShown};
 ghost use Rattle.kb_propagate.specs.Base.{IsConflict};
-ghost use Rattle.kb_sat.specs.Search.{IsLearned, IsRefuting};
-ghost use Rattle.kb_sat.specs.Analysis.{is_seen, is_pivot, AreFalseBefore, AreMarked, IsClean, MarksOthers, IsLevels, AreCovered, IsReached, IsLastSeen, NoneSeen, ArePut, MayCite, at_position};
+ghost use Rattle.kb_sat.specs.Search.{IsLearned, IsNoted, IsRefuting};
+ghost use Rattle.kb_sat.specs.Analysis.{is_seen, is_pivot, AreFalseBefore, AreMarked, IsClean, MarksOthers, IsLevels, AreCovered, IsReached, IsExact, NotesOthers, IsLastSeen, NoneSeen, ArePut, MayCite, at_position};
 
 use crate::order::ActivityOrder;
-use kb_chain::{Chain, Formula, Lit, Row, Store, derive_needed};
+use kb_chain::{Chain, Formula, Lit, LiteralSet, Row, Store, derive_needed};
 use kb_propagate::{Clauses, NoMemory, Trail};
 use std::alloc::Global;
 
@@ -47,6 +48,8 @@ pub(crate) struct Marks {
     pub(crate) lower: Vec<usize>,
     /// How many of the last level are marked.
     pub(crate) pending: usize,
+    /// The literals of the clause so far that are false at level 0.
+    pub(crate) left_out: LiteralSet,
 }
 
 impl Marks {
@@ -60,10 +63,12 @@ impl Marks {
             seen,
             lower,
             pending: 0,
+            left_out: LiteralSet::new(alloc, vars)?,
         })
     }
 
-    /// Marks the variables of false literals but the pivot's, unless they are of level 0, and raises their activity.
+    /// Marks the variables of false literals but the pivot's, and raises their activity. Literals that are false at level 0 are
+    /// noted in place of that.
     fn mark_others(
         &mut self,
         trail: &Trail,
@@ -78,6 +83,7 @@ impl Marks {
         ensures marked { OnOk result ((end : ℕ) → AreMarked trail.now.vars trail.now.literals levels end self.old
             → AreFalseBefore trail.now.literals end pivot row.now → AreMarked trail.now.vars trail.now.literals levels end self.new) }
         ensures marks { OnOk result (MarksOthers trail.now.literals levels pivot row.now self.old.seen.items self.new.seen.items) }
+        ensures notes { OnOk result (NotesOthers trail.now.literals levels.zero pivot row.now self.old.left_out.literals self.new.left_out.literals) }
         ensures order { order.new ≡ order.old }
     {
         for literal in row {
@@ -88,7 +94,7 @@ impl Marks {
         Ok(())
     }
 
-    /// Marks the variable of a false literal.
+    /// Marks the variable of a false literal, or notes the literal where it is false at level 0.
     fn mark(
         &mut self,
         trail: &Trail,
@@ -102,12 +108,14 @@ impl Marks {
         ensures marked { OnOk result ((end : ℕ) → AreMarked trail.now.vars trail.now.literals levels end self.old
             → AreFalseBefore trail.now.literals end None (literal ∷ []) → AreMarked trail.now.vars trail.now.literals levels end self.new) }
         ensures marks { OnOk result (MarksOthers trail.now.literals levels None (literal ∷ []) self.old.seen.items self.new.seen.items) }
+        ensures notes { OnOk result (NotesOthers trail.now.literals levels.zero None (literal ∷ []) self.old.left_out.literals self.new.left_out.literals) }
         ensures order { order.new ≡ order.old }
     {
         let _literals = trail.literals();
         trail.tell_once();
         let position = trail.position(literal.negated());
         if position < levels.zero {
+            self.left_out.insert(literal)?;
             return Ok(());
         }
         let variable = literal.variable();
@@ -184,6 +192,8 @@ pub(crate) fn analyse(
     requires order { order.old ≡ trail.now.vars }
     ensures learned { IfOk result (λ learned. (all : List (List Literal)) → IsJustified all (rows_of clauses.now) trail.now
         → IsLearned all trail.now learned.chain learned.literals learned.level) }
+    ensures noted { IfOk result (λ learned. (all : List (List Literal)) → IsJustified all (rows_of clauses.now) trail.now → AreShown all (rows_of clauses.now)
+        → IsNoted all trail.now learned.chain learned.literals marks.new.left_out.literals) }
     ensures clean { OnOk result (IsClean trail.now.vars marks.new) }
     ensures order { order.new ≡ order.old }
 {
@@ -194,6 +204,7 @@ pub(crate) fn analyse(
         start: trail.start(trail.level() - 1),
     };
     order.decay();
+    marks.left_out.go_back(0);
     let mut steps = Vec::new(alloc);
     marks.mark_others(trail, levels, order, clauses.literals(number), None)?;
     let point = resolve_level(clauses, trail, levels, order, marks, &mut steps)?;
@@ -232,6 +243,10 @@ fn resolve_level(
     ensures reached { IfOk result (λ point. (all : List (List Literal)) (number : ℕ) → IsJustified all (rows_of clauses.now) trail.now
         → IsReached all number steps.old.items trail.now.literals levels.zero (length trail.now.literals) marks.old.seen.items []
         → IsReached all number steps.new.items trail.now.literals levels.zero levels.start marks.new.seen.items (negated point ∷ [])) }
+    ensures exact { OnOk result ((all : List (List Literal)) (number : ℕ) → IsJustified all (rows_of clauses.now) trail.now → AreShown all (rows_of clauses.now)
+        → IsReached all number steps.old.items trail.now.literals levels.zero (length trail.now.literals) marks.old.seen.items []
+        → IsExact all number steps.old.items trail.now.literals levels.zero marks.old.left_out.literals
+        → IsExact all number steps.new.items trail.now.literals levels.zero marks.new.left_out.literals) }
     ensures marked { OnOk result (AreMarked trail.now.vars trail.now.literals levels levels.start marks.new) }
     ensures order { order.new ≡ order.old }
 {
@@ -272,6 +287,10 @@ fn minimise(
     ensures reached { OnOk result ((all : List (List Literal)) (number : ℕ) → IsJustified all (rows_of clauses.now) trail.now
         → IsReached all number steps.old.items trail.now.literals levels.zero levels.start marks.old.seen.items row.old.items
         → IsReached all number steps.new.items trail.now.literals levels.zero levels.zero marks.new.seen.items row.new.items) }
+    ensures exact { OnOk result ((all : List (List Literal)) (number : ℕ) → IsJustified all (rows_of clauses.now) trail.now → AreShown all (rows_of clauses.now)
+        → IsReached all number steps.old.items trail.now.literals levels.zero levels.start marks.old.seen.items row.old.items
+        → IsExact all number steps.old.items trail.now.literals levels.zero marks.old.left_out.literals
+        → IsExact all number steps.new.items trail.now.literals levels.zero marks.new.left_out.literals) }
     ensures put { IfOk result (ArePut trail.now.literals levels row.old.items row.new.items) }
     ensures clean { OnOk result (IsClean trail.now.vars marks.new) }
 {
@@ -288,7 +307,10 @@ fn minimise(
         }
         marks.seen[variable as usize] = false;
         match adds_nothing(clauses, trail, levels, marks, position) {
-            Some(number) => steps.push((variable, number))?,
+            Some(number) => {
+                note_false(trail, levels, clauses.literals(number), &mut marks.left_out)?;
+                steps.push((variable, number))?;
+            }
             None => {
                 row.push(literal.negated())?;
                 highest = highest.or(Some(position));
@@ -296,6 +318,37 @@ fn minimise(
         }
     }
     Ok(highest)
+}
+
+/// Notes the literals of a row that are false at level 0.
+fn note_false(
+    trail: &Trail,
+    levels: Levels,
+    row: &[Lit],
+    left_out: &mut LiteralSet,
+) -> Result<(), NoMemory>
+    requires places { left_out.old.places ≡ 2 * trail.now.vars + 2 }
+    ensures notes { OnOk result (NotesOthers trail.now.literals levels.zero None row.now left_out.old.literals left_out.new.literals) }
+    ensures places { OnOk result (left_out.new.places ≡ left_out.old.places) }
+{
+    trail.tell_trail();
+    for literal in row {
+        if is_false_at_zero(trail, levels, *literal) {
+            left_out.insert(*literal)?;
+        }
+    }
+    Ok(())
+}
+
+/// Whether a literal is false at level 0.
+fn is_false_at_zero(trail: &Trail, levels: Levels, literal: Lit) -> bool
+    ensures { result ≡ has (take levels.zero trail.now.literals) (negated literal) }
+{
+    trail.tell_once();
+    if !trail.is_false(literal) {
+        return false;
+    }
+    trail.position(literal.negated()) < levels.zero
 }
 
 /// Refutes the formula by a conflict at level 0: resolves on all its literals, from late to early. The clauses that this can

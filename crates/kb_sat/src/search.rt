@@ -149,6 +149,7 @@ impl<'a> Search<'a> {
         let levels = levels_of(&self.base.trail, literals.as_slice());
         self.ranks.note(&chain);
         self.base.entries.push(chain.start, chain.steps.as_slice())?;
+        self.base.left_out.push(self.marks.left_out.literals())?;
         self.go_back(level)?;
         let row = literals.as_slice();
         let first = row[0];
