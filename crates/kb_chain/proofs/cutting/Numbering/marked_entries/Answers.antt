@@ -1,4 +1,4 @@
-use Rattle.std.proofs.Common.{◌≡◌, ◌∙◌, ◌+◌, ◌++◌, ◌∷◌, [], ap, sym, length, drop, false, true, get_or, arith}
+use Rattle.std.proofs.Common.{◌≡◌, ◌∙◌, ◌+◌, ◌<◌, ◌++◌, ◌∷◌, [], ap, sym, length, drop, false, true, get_or, arith}
 use Rattle.std.proofs.lemmas.List.{get_or_default}
 use Rattle.kb_chain.specs.Cutting.{Marking, number_among, renumbered, marked_entries}
 use Rattle.kb_chain.proofs.CuttingLaws.{marked_more, marked_less}
