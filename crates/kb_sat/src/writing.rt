@@ -122,6 +122,7 @@ impl Writing {
         ensures numbers { OnOk result (self.new.numbers.items ≡ self.old.numbers.items) }
         ensures places { OnOk result (others.new.places ≡ others.old.places) }
     {
+        base.trail.tell_once();
         let position = self.units.len();
         let literal = base.trail.literals()[position];
         let Some(reason) = base.trail.reason(position) else {
@@ -151,6 +152,8 @@ impl Writing {
         ensures units { OnOk result (self.new.units.items ≡ self.old.units.items) }
         ensures numbers { OnOk result (length self.new.numbers.items ≡ length self.old.numbers.items + 1) }
     {
+        base.trail.tell_trail();
+        base.trail.tell_once();
         let (start, cited) = base.entries.entry(entry);
         let mut steps = Row::new(alloc);
         for step in cited {
@@ -180,6 +183,8 @@ impl Writing {
         requires numbers { length self.old.numbers.items ≡ length base.now.formula.now.clauses + length base.now.entries }
         ensures { OnOk result (IsRefutation base.now.formula.now.clauses self.new.log.entries) }
     {
+        base.trail.tell_trail();
+        base.trail.tell_once();
         note_others(others, base.clauses.literals(number), None)?;
         let mut steps = Row::new(alloc);
         self.add_units(&base.trail, others.literals(), &mut steps)?;
