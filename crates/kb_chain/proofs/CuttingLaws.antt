@@ -1,5 +1,5 @@
 -- What the entries that stay derive, by their new numbers.
-use Rattle.std.proofs.Common.{◌≡◌, ℕ, ◌+◌, ◌-◌, ◌<◌, ◌≤◌, ◌==◌, nat_lt, List, [], ◌∷◌, ◌++◌, Bool, true, false, cond, arith, refl, ap, sym, ◌∙◌, inl, inr, subst, Option, Some, None, option_and_then, slice_get, fold, map, zero, suc, length, get_or, drop, add-one, drop-cons}
+use Rattle.std.proofs.Common.{◌≡◌, ℕ, ◌+◌, ◌-◌, ◌<◌, ◌≤◌, ◌==◌, nat_lt, List, [], ◌∷◌, ◌++◌, Bool, true, false, cond, arith, refl, ap, sym, ◌∙◌, inl, inr, subst, Option, Some, option_and_then, slice_get, fold, map, zero, suc, length, get_or, drop, add-one, drop-cons}
 use Rattle.std.proofs.lemmas.Bool.{or_left, or_right, or_cases, false≢true, eq-eqb, eqb-true, cases_eq, cases_lt, cases_Bool, lt-ltb, le-ltb, cond-true, cond-false}
 use Rattle.std.proofs.lemmas.Option.{option_and_then_some}
 use Rattle.std.proofs.lemmas.List.{length_push, get_or_past}

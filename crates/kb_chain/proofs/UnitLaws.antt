@@ -1,11 +1,10 @@
 -- A step with a unit clause takes a literal out of a clause, and nothing else.
 use Rattle.std.proofs.Common.{◌≡◌, ℕ, ◌==◌, List, [], ◌∷◌, ◌++◌, Bool, true, false, not, ◌&&◌, ◌||◌, cond, refl, ap, sym, ◌∙◌, inl, inr, Some, None, slice_get, fold}
 use Rattle.std.proofs.lemmas.Bool.{false≢true, and_parts, and_from, and_left, or_cases, or_left, or_right, false_from_ne_true, eq-eqb, ne_eqb, not-true}
-use Rattle.std.specs.List.{filter}
 use Rattle.kb_chain.specs.Literal.{Literal, literal, has, same, negated}
 use Rattle.kb_chain.specs.Clause.{IsOrdered, clause_of, without, has_only, are_opposite, resolvent_of}
 use Rattle.kb_chain.specs.Chains.{resolved}
-use Rattle.kb_chain.specs.Units.{without_all, StandOnce, unit_step, unit_steps}
+use Rattle.kb_chain.specs.Units.{without_all, StandOnce, unit_steps}
 use Rattle.kb_chain.proofs.LiteralLaws.{same-true, same_refl, has_head, has_tail, has-append, has-filter, same_variable}
 use Rattle.kb_chain.proofs.OrderLaws.{clause_of_is, IsOrdered-filter}
 use Rattle.kb_chain.proofs.ChainLaws.{resolved_with}

@@ -1,5 +1,5 @@
 -- Lists of literals in one table, with one more list behind them.
-use Rattle.std.proofs.Common.{◌≡◌, ℕ, ◌+◌, ◌≤◌, List, [], ◌∷◌, ◌++◌, arith, refl, ap, ◌∙◌, inl, inr, length, zero, suc}
+use Rattle.std.proofs.Common.{◌≡◌, ◌+◌, ◌≤◌, List, [], ◌∷◌, ◌++◌, arith, refl, ap, ◌∙◌, inl, inr, length, zero, suc}
 use Rattle.std.proofs.lemmas.List.{map-append, length-append}
 use Rattle.kb_chain.specs.Literal.{Literal}
 use Rattle.kb_propagate.specs.Rows.{row_of}

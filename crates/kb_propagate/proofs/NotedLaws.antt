@@ -1,10 +1,10 @@
 -- What is noted beside the entries of a log stays true as the trail and the log go on.
-use Rattle.std.proofs.Common.{◌≡◌, ℕ, ◌+◌, ◌<◌, ◌≤◌, List, [], ◌∷◌, ◌++◌, Bool, true, false, ◌&&◌, not, arith, refl, ap, sym, ◌∙◌, inl, inr, ◌⊎◌, subst, length, get_or, set, take, zero, suc, Some, None, slice_get, Option, option_and_then, fold, length-set}
-use Rattle.std.proofs.lemmas.Bool.{false≢true, and_parts, and_from, not-true, false_from_ne_true, cases_Bool, or_right}
+use Rattle.std.proofs.Common.{◌≡◌, ℕ, ◌+◌, ◌<◌, ◌≤◌, List, [], ◌∷◌, ◌++◌, Bool, true, false, ◌&&◌, not, arith, refl, ap, sym, ◌∙◌, inl, inr, subst, length, get_or, set, take, zero, suc, Some, None, slice_get, Option, fold}
+use Rattle.std.proofs.lemmas.Bool.{false≢true, and_parts, and_from, not-true, false_from_ne_true, cases_Bool}
 use Rattle.std.proofs.lemmas.List.{take_all, take-append-le, length_push}
 use Rattle.std.proofs.lemmas.Option.{cond_some, option_and_then_some}
 use Rattle.kb_chain.specs.Literal.{Literal, has, negated}
-use Rattle.kb_chain.specs.Clause.{IsOrdered, has_only, clause_of, without, are_opposite, resolvent_of}
+use Rattle.kb_chain.specs.Clause.{IsOrdered, clause_of, without, are_opposite, resolvent_of}
 use Rattle.kb_chain.specs.Chains.{entry_of, resolved}
 use Rattle.kb_chain.specs.Units.{without_all, StandOnce}
 use Rattle.kb_chain.specs.declared.log.Chain.{Chain}
@@ -14,9 +14,9 @@ use Rattle.kb_chain.proofs.OrderLaws.{IsOrdered-clause_of}
 use Rattle.kb_chain.proofs.UnitLaws.{has-without_all, has-without_all_from, IsOrdered-without_all}
 use Rattle.kb_propagate.specs.Trail.{Assigned, IsTrail, HasReasons, level_zero, level_start, cut_back}
 use Rattle.kb_propagate.specs.Rows.{AreReordered}
-use Rattle.kb_propagate.specs.Store.{IsRow, IsJustified}
+use Rattle.kb_propagate.specs.Store.{IsJustified}
 use Rattle.kb_propagate.specs.Noted.{AreForcedBefore, IsFalseAtZero, AreLeftOut, IsNotedEntry, IsNotedLog, AllOrdered, AreShown}
-use Rattle.kb_propagate.proofs.Places.{some_in, at_has, has_at, at_within, at_inside, at_kept, at_pushed, at_last, at_set, at_same, at_taken}
+use Rattle.kb_propagate.proofs.Places.{some_in, has_at, at_within, at_inside, at_kept, at_pushed, at_last, at_set, at_same, at_taken}
 use Rattle.kb_propagate.proofs.JustifyLaws.{IsJustified-grow, pushed, level_zero-decided, level_zero-cut}
 use Rattle.kb_propagate.proofs.TrailLaws.{length_taken}
 

@@ -1,18 +1,18 @@
 -- What is noted of a clause that is resolved along a trail: its literals that are false at level 0.
-use Rattle.std.proofs.Common.{◌≡◌, ℕ, ◌+◌, ◌<◌, ◌≤◌, ◌==◌, List, [], ◌∷◌, ◌++◌, Bool, true, false, not, ◌&&◌, ◌||◌, arith, refl, ap, sym, ◌∙◌, inl, inr, subst, length, take, Option, Some, None, slice_get, fold}
+use Rattle.std.proofs.Common.{◌≡◌, ℕ, ◌+◌, ◌<◌, ◌≤◌, ◌==◌, List, [], ◌∷◌, ◌++◌, Bool, true, false, not, ◌&&◌, ◌||◌, arith, refl, ap, sym, ◌∙◌, inl, inr, length, take, Some, None, slice_get, fold}
 use Rattle.std.proofs.lemmas.Bool.{false≢true, and_from, cases_Bool, cases_eq, eq-eqb, ne_eqb}
 use Rattle.std.proofs.lemmas.List.Sums.{fold-append}
 use Rattle.std.proofs.lemmas.Option.{cond_some}
 use Rattle.kb_chain.specs.Literal.{Literal, has, negated}
 use Rattle.kb_chain.specs.Clause.{clause_of, without, are_opposite, resolvent_of}
-use Rattle.kb_chain.specs.Chains.{resolved, entry_of}
+use Rattle.kb_chain.specs.Chains.{resolved}
 use Rattle.kb_chain.specs.Units.{StandOnce}
 use Rattle.kb_chain.specs.declared.log.Chain.{Chain}
 use Rattle.kb_chain.proofs.LiteralLaws.{has-append, has-filter}
 use Rattle.kb_chain.proofs.OrderLaws.{has-clause_of}
 use Rattle.kb_chain.proofs.ChainLaws.{resolved_with}
 use Rattle.kb_propagate.specs.Trail.{Assigned, IsTrail, level_zero}
-use Rattle.kb_propagate.specs.Noted.{AreShown, IsNotedLog}
+use Rattle.kb_propagate.specs.Noted.{IsNotedLog}
 use Rattle.kb_propagate.proofs.NotedLaws.{AreLeftOut-from, row_is_rest, IsNotedLog-push, entry_ordered}
 use Rattle.kb_propagate.proofs.JustifyLaws.{level_zero_part}
 use Rattle.kb_sat.specs.Search.{IsLearned, IsNoted}

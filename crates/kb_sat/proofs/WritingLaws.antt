@@ -1,24 +1,24 @@
 -- What the entries of a log derive that has a unit clause for each literal of level 0.
-use Rattle.std.proofs.Common.{◌≡◌, ℕ, ◌+◌, ◌<◌, ◌≤◌, ◌==◌, List, [], ◌∷◌, ◌++◌, Bool, true, false, not, ◌&&◌, ◌||◌, cond, arith, refl, ap, sym, ◌∙◌, inl, inr, ◌⊎◌, subst, length, get_or, take, zero, suc, Option, Some, None, slice_get, fold, map}
-use Rattle.std.proofs.lemmas.Bool.{false≢true, and_parts, and_from, or_cases, or_left, not-true, false_from_ne_true, cases_Bool, cases_lt, cond-true, cond-false}
+use Rattle.std.proofs.Common.{◌≡◌, ℕ, ◌+◌, ◌<◌, ◌≤◌, List, [], ◌∷◌, ◌++◌, Bool, true, false, not, ◌&&◌, arith, refl, ap, sym, ◌∙◌, inl, inr, length, get_or, take, zero, suc, Some, slice_get, fold, map}
+use Rattle.std.proofs.lemmas.Bool.{false≢true, and_parts, and_from, or_cases, or_left, not-true, false_from_ne_true, cases_Bool, cond-true, cond-false}
 use Rattle.std.proofs.lemmas.List.Sums.{fold-append}
 use Rattle.kb_chain.specs.Literal.{Literal, has, negated, same}
 use Rattle.kb_chain.specs.Clause.{IsOrdered, has_only}
 use Rattle.kb_chain.specs.Propagation.{all_negated, others}
-use Rattle.kb_chain.specs.Chains.{resolved, entry_of, derived}
+use Rattle.kb_chain.specs.Chains.{resolved, entry_of}
 use Rattle.kb_chain.specs.Needed.{cites}
 use Rattle.kb_chain.specs.Units.{without_all, StandOnce, unit_steps}
-use Rattle.kb_chain.specs.Cutting.{step_with, renumbered}
+use Rattle.kb_chain.specs.Cutting.{step_with}
 use Rattle.kb_chain.specs.declared.log.Chain.{Chain}
-use Rattle.kb_chain.proofs.LiteralLaws.{same-true, same_refl, has_head, negated-negated, same_variable}
+use Rattle.kb_chain.proofs.LiteralLaws.{same-true, same_refl, has_head, same_variable}
 use Rattle.kb_chain.proofs.OrderLaws.{same_members}
 use Rattle.kb_chain.proofs.PropagationLaws.{all_negated-at, has-others, taken_part}
 use Rattle.kb_chain.proofs.UnitLaws.{units_away, has-without_all, has-without_all_from, IsOrdered-without_all}
 use Rattle.kb_chain.proofs.CuttingLaws.{renumbered_same}
-use Rattle.kb_propagate.specs.Trail.{Assigned, IsTrail, IsReason, HasReasons, level_zero}
+use Rattle.kb_propagate.specs.Trail.{Assigned, IsTrail}
 use Rattle.kb_propagate.specs.Tables.{IsDistinct}
-use Rattle.kb_propagate.specs.Noted.{AreForcedBefore, AreLeftOut, IsNotedEntry, AllOrdered}
-use Rattle.kb_propagate.proofs.Places.{at_has, has_at, at_inside, at_within, at_get_or, at_taken, at_take}
+use Rattle.kb_propagate.specs.Noted.{IsNotedEntry}
+use Rattle.kb_propagate.proofs.Places.{has_at, at_inside, at_within, at_get_or, at_taken, at_take, at_kept, at_pushed, at_same}
 use Rattle.kb_sat.specs.Writing.{position_in, unit_number, is_one, HaveNumbers, HaveUnits, AreFalseByUnits}
 
 -- where each literal stands once, it stands at one place
@@ -139,3 +139,34 @@ entry_written all clauses t numbers units number chain literals h once have_numb
         let n = at_within numbers k (omega (arith, lt, size)) in
         let x = at_within clauses k (omega (arith, lt, inside)) in
         ap (slice_get all) (at_get_or numbers k n.0 0 n.1) ∙ (have_numbers k n.0 x.0 n.1 x.1 ∙ sym (at_take number clauses k x.0 x.1 lt))
+
+-- one more entry, or one more number
+
+pub numbers_longer : (all clauses : List (List Literal)) (numbers : List ℕ) (more : List Literal) → HaveNumbers all clauses numbers → HaveNumbers (all ++ more ∷ []) clauses numbers
+numbers_longer all clauses numbers more h k number clause e f = at_kept all (more ∷ []) number clause (h k number clause e f)
+
+pub units_longer : (all : List (List Literal)) (trail : List Literal) (units : List ℕ) (more : List Literal) → HaveUnits all trail units → HaveUnits (all ++ more ∷ []) trail units
+units_longer all trail units more h p number l e f = at_kept all (more ∷ []) number (l ∷ []) (h p number l e f)
+
+pub numbers_push : (all clauses : List (List Literal)) (numbers : List ℕ) (number : ℕ) (clause : List Literal) → HaveNumbers all clauses numbers
+    → slice_get clauses (length numbers) ≡ Some clause → slice_get all number ≡ Some clause → HaveNumbers all clauses (numbers ++ number ∷ [])
+numbers_push all clauses numbers number clause h at there k n c e f = elim (at_pushed numbers number k n e) [
+  | inl g ↦ h k n c g f
+  | inr g ↦ ap (slice_get all) (sym g.1) ∙ (there ∙ ap Some (at_same clauses k clause c (ap (slice_get clauses) g.0 ∙ at) f))
+]
+
+pub units_push : (all : List (List Literal)) (trail : List Literal) (units : List ℕ) (number : ℕ) (l : Literal) → HaveUnits all trail units
+    → slice_get trail (length units) ≡ Some l → slice_get all number ≡ Some (l ∷ []) → HaveUnits all trail (units ++ number ∷ [])
+units_push all trail units number l h at there p n m e f = elim (at_pushed units number p n e) [
+  | inl g ↦ h p n m g f
+  | inr g ↦ ap (slice_get all) (sym g.1) ∙ (there ∙ ap (λ z. Some (z ∷ [])) (at_same trail p l m (ap (slice_get trail) g.0 ∙ at) f))
+]
+
+-- before any entry
+pub numbers_start : (formula clauses : List (List Literal)) (numbers : List ℕ) → take (length formula) clauses ≡ formula → length numbers ≡ length formula
+    → ((k : ℕ) → k < length formula → slice_get numbers k ≡ Some k) → HaveNumbers formula clauses numbers
+numbers_start formula clauses numbers front size own k number clause e f =
+    let inside : k < length numbers = at_inside numbers k number e in
+    let lt : k < length formula = omega (arith, inside, size) in
+    ap (slice_get formula) (at_same numbers k number k e (own k lt))
+    ∙ (ap (λ z. slice_get z k) (sym front) ∙ at_take (length formula) clauses k clause f lt)

@@ -1,5 +1,5 @@
 -- A refutation that has an entry for each literal of level 0.
-use Rattle.std.specs.Prelude.{◌≡◌, ℕ, ◌<◌, ◌≤◌, Bool, true, false, List, [], ◌∷◌, cond, zero, suc, length, Option, Some, None, slice_get, slice_index_or}
+use Rattle.std.specs.Prelude.{◌≡◌, ℕ, ◌<◌, ◌≤◌, Bool, true, false, List, [], ◌∷◌, cond, suc, length, Option, Some, None, slice_get, slice_index_or}
 use Rattle.kb_chain.specs.Literal.{Literal, has, negated, same}
 use Rattle.kb_chain.specs.Chains.{derived}
 use Rattle.kb_propagate.specs.Rows.{rows_of}
