@@ -16,10 +16,8 @@ use Rattle.kb_propagate.specs.Noted.{IsNotedLog}
 use Rattle.kb_propagate.proofs.NotedLaws.{AreLeftOut-from, row_is_rest, IsNotedLog-push, entry_ordered}
 use Rattle.kb_propagate.proofs.JustifyLaws.{level_zero_part}
 use Rattle.kb_sat.specs.Search.{IsLearned, IsNoted}
-use Rattle.kb_sat.specs.Analysis.{is_pivot, IsLevels, IsReached, IsExact, NotesOthers}
-use Rattle.kb_sat.specs.declared.analysis.Levels.{Levels}
+use Rattle.kb_sat.specs.Analysis.{is_pivot, IsReached, IsExact, NotesOthers}
 use Rattle.kb_sat.proofs.MarkLaws.{IsOnce, has_taken_at}
-use Rattle.kb_sat.proofs.ReasonLaws.{level_zero-is}
 use Rattle.kb_sat.proofs.LearnLaws.{learned_false}
 
 -- before any step
@@ -36,7 +34,7 @@ pivot_later : (literals : List Literal) (low p : ℕ) (m l : Literal) → IsOnce
     → (l.variable == m.variable) ≡ false
 pivot_later literals low p m l once at above e = ne_eqb l.variable m.variable (λ v.
     (let q = has_taken_at low literals (negated l) e in
-    let same : q.0 ≡ p = once q.0 p (negated l) m q.1 at v in
+    let same : q.0 ≡ p = once q.0 p (negated l) m q.1 at (sym v) in
     let lt = q.2 in absurd (omega (arith, same, lt, above))))
 
 -- one more step: what the row of the reason adds is noted
@@ -51,16 +49,6 @@ exact_resolve all number steps literals low p m c v row side later old new once 
       ∙ ap (λ b. b && has (take low literals) (negated l)) (sym (members l)));
 }
   where
-    step : (old clause side row pivotal low_false : Bool) → old ≡ (clause && low_false) → row ≡ side → (low_false ≡ true → pivotal ≡ false)
-        → (old || (row && (not pivotal && low_false))) ≡ (((clause || side) && not pivotal) && low_false)
-    step old clause side row true true e f apart = absurd (false≢true (sym (apart refl)))
-    step old true side row false true e f apart = ap (λ b. b || (row && true)) e
-    step old false side row false true e f apart = ap (λ b. b || (row && true)) e ∙ (ap (λ b. b && true) f ∙ plain side)
-    step old true side row true false e f apart = ap (λ b. b || (row && false)) e ∙ none row
-    step old false side row true false e f apart = ap (λ b. b || (row && false)) e ∙ (none row ∙ sym (none_left side))
-    step old true side row false false e f apart = ap (λ b. b || (row && false)) e ∙ none row
-    step old false side row false false e f apart = ap (λ b. b || (row && false)) e ∙ (none row ∙ sym (none_right side))
-
     plain : (b : Bool) → (b && true) ≡ ((b && true) && true)
     plain true = refl
     plain false = refl
@@ -76,6 +64,16 @@ exact_resolve all number steps literals low p m c v row side later old new once 
     none_right : (b : Bool) → ((b && true) && false) ≡ false
     none_right true = refl
     none_right false = refl
+
+    step : (old clause side row pivotal low_false : Bool) → old ≡ (clause && low_false) → row ≡ side → (low_false ≡ true → pivotal ≡ false)
+        → (old || (row && (not pivotal && low_false))) ≡ (((clause || side) && not pivotal) && low_false)
+    step old clause side row true true e f apart = absurd (false≢true (sym (apart refl)))
+    step old true side row false true e f apart = ap (λ b. b || (row && true)) e
+    step old false side row false true e f apart = ap (λ b. b || (row && true)) e ∙ (ap (λ b. b && true) f ∙ plain side)
+    step old true side row true false e f apart = ap (λ b. b || (row && false)) e ∙ none row
+    step old false side row true false e f apart = ap (λ b. b || (row && false)) e ∙ (none row ∙ sym (none_left side))
+    step old true side row false false e f apart = ap (λ b. b || (row && false)) e ∙ none row
+    step old false side row false false e f apart = ap (λ b. b || (row && false)) e ∙ (none row ∙ sym (none_right side))
 
     apart : (l : Literal) → has (take low literals) (negated l) ≡ true → is_pivot (Some v) l.variable ≡ false
     apart l e = ne_eqb v l.variable (λ f. false≢true (sym (pivot_later literals low p m l once at above e) ∙ eq-eqb l.variable m.variable (sym f ∙ same_variable)))
@@ -101,26 +99,26 @@ exact_resolve all number steps literals low p m c v row side later old new once 
         ]
 
 -- when all marks are gone
-pub noted_of : (all : List (List Literal)) (t : Assigned) (levels : Levels) (chain : Chain) (seen : List Bool) (row left_out : List Literal) → IsLevels t levels
-    → IsReached all chain.start chain.steps t.literals levels.zero levels.zero seen row → IsExact all chain.start chain.steps t.literals levels.zero left_out
+pub noted_of : (all : List (List Literal)) (t : Assigned) (low : ℕ) (chain : Chain) (seen : List Bool) (row left_out : List Literal) → level_zero t ≡ take low t.literals
+    → IsReached all chain.start chain.steps t.literals low low seen row → IsExact all chain.start chain.steps t.literals low left_out
     → StandOnce left_out → IsNoted all t chain row left_out
-noted_of all t levels chain seen row left_out is r h once = record {
+noted_of all t low chain seen row left_out is r h once = record {
   clause = r.clause;
   derives = r.derives;
   once = once;
-  exact = λ l. h.exact l ∙ (ap (λ z. has z l && has (take levels.zero t.literals) (negated l)) same_clause
-      ∙ ap (λ z. has r.clause l && has z (negated l)) (sym (level_zero-is t levels is)));
-  rest = λ l. rest l (has row l) (has r.clause l) refl refl ∙ ap (λ z. has r.clause l && not (has z (negated l))) (sym (level_zero-is t levels is));
+  exact = λ l. h.exact l ∙ (ap (λ z. has z l && has (take low t.literals) (negated l)) same_clause
+      ∙ ap (λ z. has r.clause l && has z (negated l)) (sym is));
+  rest = λ l. rest l (has row l) (has r.clause l) refl refl ∙ ap (λ z. has r.clause l && not (has z (negated l))) (sym is);
 }
   where
     same_clause : h.clause ≡ r.clause
     same_clause = let e : Some h.clause ≡ Some r.clause = sym h.derives ∙ r.derives in cc
 
-    rest : (l : Literal) (a b : Bool) → has row l ≡ a → has r.clause l ≡ b → has row l ≡ (has r.clause l && not (has (take levels.zero t.literals) (negated l)))
+    rest : (l : Literal) (a b : Bool) → has row l ≡ a → has r.clause l ≡ b → has row l ≡ (has r.clause l && not (has (take low t.literals) (negated l)))
     rest l true b e f = let p = r.held.part l e in e ∙ sym (and_from _ _ p.0 (ap not p.1))
-    rest l false false e f = e ∙ sym (ap (λ z. z && not (has (take levels.zero t.literals) (negated l))) f)
+    rest l false false e f = e ∙ sym (ap (λ z. z && not (has (take low t.literals) (negated l))) f)
     rest l false true e f = elim (r.held.late l f) [
-      | inl s ↦ e ∙ sym (ap (λ z. z && not (has (take levels.zero t.literals) (negated l))) f ∙ ap not s)
+      | inl s ↦ e ∙ sym (ap (λ z. z && not (has (take low t.literals) (negated l))) f ∙ ap not s)
       | inr s ↦ absurd (false≢true (sym e ∙ s))
     ]
 
