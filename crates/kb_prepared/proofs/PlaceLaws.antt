@@ -38,14 +38,14 @@ offset_behind (i ∷ items) size (suc k) item at = offset_behind items size k it
 -- ---- prepared code
 
 module _ (world : World) (tables : Prepared) (method : MethodInfo) (row : MethodRow) (code : MethodCode) (prepared : IsMethodPrepared world tables method row) (has : method.code ≡ Some code) where
-  home : Home
+  abbrev pub home : Home
   home = home_in world method row.begin
 
   operations_are : operations_of home ≡ listed_operations home code.listing.items
-  operations_are = rw has refl
+  operations_are = ap (λ (c : Option MethodCode). option_map_or (λ (of : MethodCode). listed_operations home of.listing.items) c []) has
 
   offsets_are : offsets_of method ≡ listed_offsets code
-  offsets_are = rw has refl
+  offsets_are = ap (λ (c : Option MethodCode). option_map_or listed_offsets c []) has
 
   -- the operation of the instruction at a place of the listing
   pub operation_at : (k : ℕ) (item : ℕ × Instr) → slice_get code.listing.items k ≡ Some item → slice_get tables.operations (row.begin + k) ≡ Some (operation_of home item.0 item.1)

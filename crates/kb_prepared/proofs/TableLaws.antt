@@ -1,5 +1,6 @@
 -- The tables get what is prepared of one method more.
-use Rattle.std.proofs.Common.{◌≡◌, ◌<◌, ◌+◌, ℕ, suc, ◌⊎◌, inl, inr, List, [], ◌∷◌, ◌++◌, map, length, Option, Some, None, slice_get, below_more, refl, sym, ap, subst, ◌∙◌, arith, length-append}
+use Rattle.std.proofs.Common.{◌≡◌, ◌<◌, ◌+◌, ℕ, ◌⊎◌, inl, inr, List, [], ◌∷◌, ◌++◌, map, length, Option, Some, None, slice_get, refl, sym, ap, subst, ◌∙◌, arith, length-append}
+use Rattle.std.specs.Option.{option_map_or}
 use Rattle.std.proofs.lemmas.List.{append_assoc, length-map, length_push}
 use Rattle.std.proofs.lemmas.Option.{same_Some, slice_get_within}
 use Rattle.kb_class.specs.declared.members.MethodCode.{MethodCode}
@@ -7,10 +8,11 @@ use Rattle.kb_class.specs.declared.members.MethodInfo.{MethodInfo}
 use Rattle.kb_classes.specs.World.{World, method_at}
 use Rattle.kb_code.specs.declared.instruction.Instr.{Instr}
 use Rattle.kb_classes.proofs.MethodNumbers.{get_behind, get_before}
-use Rattle.kb_classes.proofs.Places.{get_last, get_pushed}
+use Rattle.kb_classes.proofs.Places.{get_pushed}
 use Rattle.kb_prepared.specs.Operations.{Home, listed_offsets, listed_operations, offsets_of, operation_of, operations_of, row_of}
 use Rattle.kb_prepared.specs.Tables.{HasPrepared, IsMethodPrepared, StandsFrom, home_in}
 use Rattle.kb_prepared.specs.declared.operation.Operation.{Operation}
+use Rattle.kb_prepared.specs.declared.operation.Operation.TheVariants as ops
 use Rattle.kb_prepared.specs.declared.tables.MethodRow.{MethodRow}
 use Rattle.kb_prepared.specs.declared.tables.Prepared.{Prepared}
 
@@ -35,18 +37,34 @@ module _ {A : Type 0} where
   pub inside : (xs : List A) (i : ℕ) (x : A) → slice_get xs i ≡ Some x → i < length xs
   inside xs i x at = slice_get_within xs i x at
 
--- ---- one method more
+-- ---- methods
+
+-- the tables of no method
+pub none_yet : (world : World) (tables : Prepared) → tables.operations ≡ [] → tables.offsets ≡ [] → tables.methods ≡ [] → HasPrepared world 0 tables
+none_yet world tables operations offsets methods = record {
+  len = ap length methods;
+  aligned = ap length offsets ∙ sym (ap length operations);
+  each = λ number method row below there stands. let e : ⊥ = omega (arith, below) in absurd e;
+}
 
 -- as many offsets as operations
-as_many : (home : Home) (code : Option MethodCode) → home.method.code ≡ code → length (offsets_of home.method) ≡ length (operations_of home)
-as_many home None e = rw e refl
-as_many home (Some code) e =
-    let offsets : length (listed_offsets code) ≡ length code.listing.items + 1 =
-    length_push (map (λ (item : ℕ × Instr). item.0) code.listing.items) code.size ∙ ap (λ (n : ℕ). n + 1) (length-map (λ (item : ℕ × Instr). item.0) code.listing.items) in
-    let operations : length (listed_operations home code.listing.items) ≡ length code.listing.items + 1 =
-    length_push (map (λ (item : ℕ × Instr). operation_of home item.0 item.1) code.listing.items) _
-    ∙ ap (λ (n : ℕ). n + 1) (length-map (λ (item : ℕ × Instr). operation_of home item.0 item.1) code.listing.items) in
-    rw e (offsets ∙ sym operations)
+module _ (home : Home) where
+  abbrev offsets_in : Option MethodCode → List ℕ
+  offsets_in code = option_map_or listed_offsets code []
+
+  abbrev operations_in : Option MethodCode → List Operation
+  operations_in code = option_map_or (λ (of : MethodCode). listed_operations home of.listing.items) code []
+
+  as_many_in : (code : Option MethodCode) → length (offsets_in code) ≡ length (operations_in code)
+  as_many_in None = refl
+  as_many_in (Some code) =
+      let offset : ℕ × Instr → ℕ = λ item. item.0 in
+      let operation : ℕ × Instr → Operation = λ item. operation_of home item.0 item.1 in
+      length_push (map offset code.listing.items) code.size ∙ ap (λ (n : ℕ). n + 1) (length-map code.listing.items offset)
+      ∙ sym (length_push (map operation code.listing.items) ops.Bad ∙ ap (λ (n : ℕ). n + 1) (length-map code.listing.items operation))
+
+  as_many : length (offsets_of home.method) ≡ length (operations_of home)
+  as_many = as_many_in home.method.code
 
 module _ (world : World) (number : ℕ) (method : MethodInfo) (old new : Prepared) where
   pub one_more : method_at world number ≡ Some method → HasPrepared world number old
@@ -57,7 +75,7 @@ module _ (world : World) (number : ℕ) (method : MethodInfo) (old new : Prepare
     len = ap length methods ∙ length_push old.methods (row_of begin method) ∙ ap (λ (n : ℕ). n + 1) has.len;
     aligned =
         ap length offsets ∙ length-append old.offsets (offsets_of method)
-        ∙ same_sum has.aligned (as_many (home_in world method begin) method.code refl)
+        ∙ same_sum has.aligned (as_many (home_in world method begin))
         ∙ sym (ap length operations ∙ length-append old.operations (operations_of (home_in world method begin)));
     each = λ other method' row below at stands. either other method' row at (get_pushed old.methods (row_of begin method) other row (ap (λ (rows : List MethodRow). slice_get rows other) (sym methods) ∙ stands)) below;
   } where

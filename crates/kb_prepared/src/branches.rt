@@ -9,6 +9,7 @@ use kb_code::{Cond, Instr};
 use kb_names::NoMemory;
 
 /// What stands for a branch at an offset of the method: None of any other instruction.
+#[tactic(auto, unfolding(crate::specs::Operations::on_branches))]
 pub(crate) fn on_branches(
     site: &Site<'_>,
     at: u32,

@@ -14,6 +14,7 @@ use kb_names::JType;
 use kb_resolution::{resolved_at, slot_in};
 
 /// What stands for an instruction that pushes a constant of its class, or that reads or writes a field: None of any other.
+#[tactic(auto, unfolding(crate::specs::Operations::on_entries))]
 pub(crate) fn on_entries(site: &Site<'_>, instr: &Instr) -> Option<Operation>
     requires { IsSite site.now }
     ensures { result ≡ on_entries site.now.linked.now site.now.method.now.class.0 instr.now }

@@ -7,6 +7,7 @@ use kb_class::MethodInfo;
 use kb_code::Instr;
 
 /// What stands for an instruction on a local of the method: None of any other.
+#[tactic(auto, unfolding(crate::specs::Operations::on_locals))]
 pub(crate) fn on_locals(method: &MethodInfo, instr: &Instr) -> Option<Operation>
     ensures { result ≡ on_locals method.now instr.now }
 {

@@ -126,6 +126,7 @@ fn add_listed(
 }
 
 // What stands for the instruction at an offset of the method.
+#[tactic(auto, unfolding(crate::specs::Operations::operation_of))]
 fn operation_of(site: &Site<'_>, at: u32, instr: &Instr) -> Result<Operation, NoMemory>
     requires { IsSite site.now }
     ensures { IfOk result (λ found. found ≡ operation_of (home_of site.now) at instr.now) }

@@ -7,6 +7,7 @@ use kb_code::Instr;
 use kb_names::JType;
 
 /// What stands for a return of a method whose result is of the type: None of any other instruction.
+#[tactic(auto, unfolding(crate::specs::Operations::on_returns))]
 pub(crate) fn on_returns(of: &Option<JType>, instr: &Instr) -> Option<Operation>
     ensures { result ≡ on_returns of.now instr.now }
 {

@@ -6,6 +6,7 @@ use crate::operation::Operation;
 use kb_code::{Elem, Instr, IntCut, IntOp};
 
 /// What stands for an instruction that asks nothing of its method: None of any other.
+#[tactic(auto, unfolding(crate::specs::Operations::straight))]
 pub(crate) fn straight(instr: &Instr) -> Option<Operation>
     ensures { result ≡ straight instr.now }
 {
