@@ -10,28 +10,19 @@ use kb_semantics::World;
 pub fn declaring_class(world: &World, method: MethodId) -> ClassId
     ensures { result.0 ≡ class_number world.now method }
 {
-    match world.find_method(method) {
-        Some(info) => info.class,
-        None => ClassId(0),
-    }
+    world.find_class(method)
 }
 
 /// How many values the stack of a method's frame may have. It takes no memory.
 pub fn max_stack(world: &World, method: MethodId) -> u16
     ensures { result ≡ max_stack_of world.now method }
 {
-    match world.find_code(method) {
-        Some(code) => code.max_stack,
-        None => 0,
-    }
+    world.find_max_stack(method)
 }
 
 /// How many locals a method's frame has. It takes no memory.
 pub fn max_locals(world: &World, method: MethodId) -> u16
     ensures { result ≡ max_locals_of world.now method }
 {
-    match world.find_code(method) {
-        Some(code) => code.max_locals,
-        None => 0,
-    }
+    world.find_max_locals(method)
 }

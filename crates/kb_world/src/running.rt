@@ -2,6 +2,7 @@
 ghost use Rattle.std.specs.Prelude.{◌≡◌, [], ◌==◌, length, nat_lt, option_map, slice_get};
 ghost use Rattle.std.specs.List.{list_any};
 ghost use Rattle.std.specs.Option.{option_copied, option_and_then, option_map_or};
+ghost use Rattle.kb_class.specs.declared.members.MethodCode.{MethodCode as PlainCode};
 ghost use Rattle.kb_class.specs.declared.members.MethodInfo.{MethodInfo as PlainMethod};
 ghost use Rattle.kb_names.specs.declared.types.JType.TheVariants as types;
 ghost use Rattle.kb_class.specs.Class.{Class};
@@ -12,11 +13,14 @@ ghost use Rattle.kb_classes.specs.Subtypes.{fits, type_of_exact};
 ghost use Rattle.kb_classes.specs.World.{chain_of, method_at, number_in, type_entry_of, int_entry_of};
 ghost use Rattle.kb_world.specs.Calls.{is_without_file, selected_on};
 ghost use Rattle.kb_resolution.specs.Lookup.{resolved_field, resolved_method, selected_special, sought_at};
+ghost use Rattle.kb_prepared.specs.Operations.{row_of};
+ghost use Rattle.kb_prepared.specs.Tables.{with_begin};
 
 use crate::world::World;
 use kb_class::{ClassId, MethodCode, MethodId, MethodInfo, Reference};
 use kb_link::{FieldSlot, is_above_arrays};
 use kb_names::{ExactType, Name};
+use kb_prepared::MethodRow;
 use kb_resolution::stands_at;
 
 impl World {
@@ -44,6 +48,47 @@ impl World {
         match self.find_method(method) {
             Some(info) => info.code.as_ref(),
             None => None,
+        }
+    }
+
+    // What is known of the method of that number, if there is one: one look into a table.
+    fn find_row(&self, method: MethodId) -> Option<MethodRow>
+        ensures { option_map (with_begin 0) result ≡ option_map (row_of 0) (method_at self.now method.0) }
+    {
+        let tables = self.prepared();
+        tables.methods.as_slice().get(method.0 as usize).copied()
+    }
+
+    /// The number of the class that declares the method of that number: 0 where there is no such method.
+    #[tactic(auto, using(kb_prepared::proofs::PlaceLaws::class_told, kb_prepared::proofs::PlaceLaws::none_told))]
+    pub fn find_class(&self, method: MethodId) -> ClassId
+        ensures { result.0 ≡ option_map_or (λ (m : PlainMethod). m.class.0) (method_at self.now method.0) 0 }
+    {
+        match self.find_row(method) {
+            Some(row) => ClassId(row.class),
+            None => ClassId(0),
+        }
+    }
+
+    /// How many values the stack of a frame of the method of that number may have: 0 where it has no code.
+    #[tactic(auto, using(kb_prepared::proofs::PlaceLaws::max_stack_told, kb_prepared::proofs::PlaceLaws::none_told))]
+    pub fn find_max_stack(&self, method: MethodId) -> u16
+        ensures { result ≡ option_map_or (λ (code : PlainCode). code.max_stack) (option_and_then (λ (m : PlainMethod). m.code) (method_at self.now method.0)) 0 }
+    {
+        match self.find_row(method) {
+            Some(row) => row.max_stack,
+            None => 0,
+        }
+    }
+
+    /// How many locals a frame of the method of that number has: 0 where it has no code.
+    #[tactic(auto, using(kb_prepared::proofs::PlaceLaws::max_locals_told, kb_prepared::proofs::PlaceLaws::none_told))]
+    pub fn find_max_locals(&self, method: MethodId) -> u16
+        ensures { result ≡ option_map_or (λ (code : PlainCode). code.max_locals) (option_and_then (λ (m : PlainMethod). m.code) (method_at self.now method.0)) 0 }
+    {
+        match self.find_row(method) {
+            Some(row) => row.max_locals,
+            None => 0,
         }
     }
 

@@ -14,11 +14,13 @@ ghost use Rattle.kb_universe.specs.Marks.{is_array_below, HaveMarks};
 ghost use Rattle.kb_resolution.specs.Lookup.{selected};
 ghost use Rattle.kb_world.specs.Receivers.{receivers_in};
 ghost use Rattle.kb_resolution.specs.Tables.{AreRows, AreSelected, IsResolved};
+ghost use Rattle.kb_prepared.specs.Tables.{IsPrepared};
 
 use kb_class::{ClassId, LoadedClass, MethodId, MethodInfo};
 use kb_classfile::ClassFile;
 use kb_link::{FieldSlot, Linked};
 use kb_names::{ExactType, JType, Name, NoMemory, Row, Target};
+use kb_prepared::{Prepared, prepared_of};
 use kb_resolution::{
     Resolved, Selection, chain_at, receivers_of, resolved_at, rows_of, selected_by, selection_of,
     slots_at,
@@ -39,6 +41,7 @@ pub struct World {
     marks: Marks,
     // The numbers of those of its types that are classes, in its order.
     receivers: Row<u32>,
+    prepared: Prepared,
 }
 
 // What is known of linked classes.
@@ -48,6 +51,7 @@ struct Tables {
     selection: Selection,
     marks: Marks,
     receivers: Row<u32>,
+    prepared: Prepared,
 }
 
 // What is known of these classes.
@@ -57,16 +61,19 @@ fn tables_of(alloc: Global, linked: &Linked) -> Result<Tables, NoMemory>
     ensures selection { IfOk result (λ tables. AreSelected linked.now tables.selection) }
     ensures marks { IfOk result (λ tables. HaveMarks linked.now tables.marks) }
     ensures receivers { IfOk result (λ tables. tables.receivers ≡ receivers_in linked.now) }
+    ensures prepared { IfOk result (λ tables. IsPrepared linked.now tables.prepared) }
 {
     let marks = Marks::of(alloc, linked)?;
     let receivers = receivers_of(alloc, linked, marks.class_types(linked))?;
     let rows = rows_of(alloc, linked)?;
     let selection = selection_of(alloc, linked)?;
+    let prepared = prepared_of(alloc, linked, rows.as_slice())?;
     Ok(Tables {
         rows,
         selection,
         marks,
         receivers,
+        prepared,
     })
 }
 
@@ -81,9 +88,10 @@ impl Model for World {
     ghost use Rattle.kb_universe.specs.Marks.{HaveMarks};
     ghost use Rattle.kb_world.specs.Receivers.{receivers_in};
     ghost use Rattle.kb_resolution.specs.Tables.{AreRows, AreSelected};
+    ghost use Rattle.kb_prepared.specs.Tables.{IsPrepared};
     ghost use Rattle.std.specs.Prelude.{◌≡◌};
 
-    ghost invariant = { λ w. IsLinked w.linked × AreRows w.linked w.rows.items × AreSelected w.linked w.selection × HaveMarks w.linked w.marks × (w.receivers ≡ receivers_in w.linked) };
+    ghost invariant = { λ w. IsLinked w.linked × AreRows w.linked w.rows.items × AreSelected w.linked w.selection × HaveMarks w.linked w.marks × (w.receivers ≡ receivers_in w.linked) × IsPrepared w.linked w.prepared };
 }
 
 impl World {
@@ -98,6 +106,7 @@ impl World {
             selection,
             marks,
             receivers,
+            prepared,
         } = tables;
         Ok(World {
             linked,
@@ -105,6 +114,7 @@ impl World {
             selection,
             marks,
             receivers,
+            prepared,
         })
     }
 
@@ -124,6 +134,14 @@ impl World {
         ensures { result ≡ selected self.now class.0 method.0 }
     {
         selected_by(&self.selection, class.0, method.0)
+    }
+
+    /// The prepared code of the methods of all classes: made once, with the world.
+    pub fn prepared(&self) -> &Prepared
+        ensures prepared { IsPrepared self.now result.now }
+        ensures linked { IsLinked self.now }
+    {
+        &self.prepared
     }
 
     /// The linked classes.
