@@ -26,6 +26,7 @@ use Rattle.kb_picture.specs.declared.path.Leaf.{Leaf}
 use Rattle.kb_picture.specs.declared.path.Leaf.TheVariants.{Ended as EndedLeaf}
 use Rattle.kb_picture.specs.declared.path.Made.{Made}
 use Rattle.kb_picture.specs.declared.path.Out.{Out}
+use Rattle.kb_picture.specs.declared.path.Out.TheVariants as outs
 use Rattle.kb_picture.specs.declared.path.SymEnding.{SymEnding}
 use Rattle.kb_picture.specs.declared.path.SymEnding.TheVariants.{Returned, Threw, IllTyped}
 use Rattle.kb_picture.specs.declared.path.Write.{Write}

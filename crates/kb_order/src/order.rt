@@ -32,8 +32,8 @@ impl Model for Order {
     ghost invariant = { λ order. IsTable order.direct order.table × (length order.direct ≤ 2 ^ 16) };
 }
 
-/// The order in which these numbers stand directly above 0, 1 and so on. More than 65,536 numbers are answered as want of
-/// memory. The time grows with the sum of the lists' lengths, and besides with the number of lists alone.
+/// The order in which these numbers stand directly above 0, 1 and so on. More than 65,536 numbers count as out
+/// of memory. The time grows with the sum of the lists' lengths, and besides with the number of lists alone.
 pub fn order_of(alloc: Global, direct: Vec<Row<u32>>) -> Result<Order, NoMemory>
     requires { IsComplete direct.items }
     ensures { IfOk result (λ order. order ≡ direct.items) }

@@ -16,4 +16,4 @@ pub use inputs::{add_to_input, no_input};
 pub use leaves::add_carried;
 pub use paths::{add_to_path, path_of};
 pub use texts::split;
-pub use words::{read_location, read_slot};
+pub use words::{numbered, read_exact, read_location, read_out, read_slot};

@@ -13,11 +13,12 @@ use Rattle.kb_propagate.specs.Trail.{Assigned}
 use Rattle.kb_propagate.specs.Rows.{StoredClause, rows_of}
 use Rattle.kb_propagate.specs.Watches.{Pair, pair_of, pairs_of, Quiet, watches_clause, at_literal, blocks, is_blocked, all_blocked, IsWatching, AllListed}
 use Rattle.kb_propagate.specs.Forgetting as forgetting
-use Rattle.kb_propagate.specs.Forgetting.{is_awake, has_awake_clause, only_awake}
+use Rattle.kb_propagate.specs.Forgetting.{is_awake, has_awake_clause, only_awake, AreLeftOrEmpty}
 use Rattle.kb_propagate.specs.Store.{IsJustified, IsNoReason}
-use Rattle.kb_propagate.specs.Base.{IsBase}
+use Rattle.kb_propagate.specs.Base.{IsBase, Stands, IsReady, Forgets}
+use Rattle.kb_propagate.specs.declared.base.Base.{Base}
 use Rattle.kb_propagate.proofs.WatchLaws.{blocked_row}
-use Rattle.kb_propagate.proofs.Places.{at_set, at_set_same, at_set_other, at_inside}
+use Rattle.kb_propagate.proofs.Places.{at_set, at_set_same, at_set_other, at_inside, at_mapped}
 use Rattle.kb_propagate.proofs.PairLaws.{is_awake-at, rows_set, pairs_set}
 
 -- the pairs when the clause of a number is let go
@@ -274,3 +275,54 @@ Quiet-deleted clauses n early late q = go (slice_get clauses n)
         subst (λ z. Quiet z (pairs_of (set clauses n (record { literals = []; awake = false }))) early late) (sym (rows_set clauses n (record { literals = []; awake = false })))
         (subst (λ z. Quiet (set (rows_of clauses) n []) z early late) (sym (pairs_set clauses n (record { literals = []; awake = false })))
         (deleted_quiet (rows_of clauses) (pairs_of clauses) n (pair_of (record { literals = []; awake = false })) early late refl q))
+
+-- which rows stay
+
+pub AreLeftOrEmpty-refl : (rows : List (List Literal)) → AreLeftOrEmpty rows rows
+AreLeftOrEmpty-refl rows = record { count = refl; each = λ k. inl refl }
+
+pub AreLeftOrEmpty-trans : (a b c : List (List Literal)) → AreLeftOrEmpty a b → AreLeftOrEmpty b c → AreLeftOrEmpty a c
+AreLeftOrEmpty-trans a b c g h = record {
+  count = h.count ∙ g.count;
+  each = λ k. elim (h.each k) [
+    | inl s ↦ elim (g.each k) [ inl t ↦ inl (s ∙ t) | inr t ↦ inr (s ∙ t) ]
+    | inr s ↦ inr s
+  ];
+}
+
+pub AreLeftOrEmpty-same : (old new : List (List Literal)) → new ≡ old → AreLeftOrEmpty old new
+AreLeftOrEmpty-same old new e = subst (λ z. AreLeftOrEmpty old z) (sym e) (AreLeftOrEmpty-refl old)
+
+pub AreLeftOrEmpty-deleted : (clauses : List StoredClause) (n : ℕ) → AreLeftOrEmpty (rows_of clauses) (rows_of (forgetting.deleted clauses n))
+AreLeftOrEmpty-deleted clauses n = go (slice_get clauses n) refl
+  where
+    go : (found : Option StoredClause) → slice_get clauses n ≡ found → AreLeftOrEmpty (rows_of clauses) (rows_of (forgetting.deleted_at clauses n found))
+    go None e = AreLeftOrEmpty-refl (rows_of clauses)
+    go (Some c) e =
+        subst (λ z. AreLeftOrEmpty (rows_of clauses) z) (sym (rows_set clauses n (record { literals = []; awake = false }))) (record {
+          count = length-set (rows_of clauses) n [];
+          each = λ k. elim (cases_eq k n) [
+            | inl s ↦ inr (ap (slice_get (set (rows_of clauses) n [])) s ∙ at_set_same (rows_of clauses) n [] (at_inside (rows_of clauses) n c.literals (at_mapped (λ (d : StoredClause). d.literals) clauses n c e)))
+            | inr d ↦ inl (at_set_other (rows_of clauses) n [] k d)
+          ];
+        })
+
+pub Forgets-refl : (b : Base) → Stands b → IsReady b → Forgets b b
+Forgets-refl b stands ready = record {
+  stands = stands;
+  ready = ready;
+  trail = refl;
+  rows = AreLeftOrEmpty-refl (rows_of b.clauses);
+  entries = refl;
+  formula = refl;
+}
+
+pub Forgets-trans : (a b c : Base) → Forgets a b → Forgets b c → Forgets a c
+Forgets-trans a b c g h = record {
+  stands = h.stands;
+  ready = h.ready;
+  trail = h.trail ∙ g.trail;
+  rows = AreLeftOrEmpty-trans (rows_of a.clauses) (rows_of b.clauses) (rows_of c.clauses) g.rows h.rows;
+  entries = h.entries ∙ g.entries;
+  formula = h.formula ∙ g.formula;
+}

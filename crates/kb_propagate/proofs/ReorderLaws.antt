@@ -18,6 +18,15 @@ AreReordered-refl rows = record {
   each = λ k row later e f l. ap (λ z. has z l) (at_same rows k later row f e);
 }
 
+pub AreReordered-trans : (a b c : List (List Literal)) → AreReordered a b → AreReordered b c → AreReordered a c
+AreReordered-trans a b c g h = record {
+  count = h.count ∙ g.count;
+  each = λ k row later e f l.
+      (let inside : k < length b = subst (λ n. k < n) (sym g.count) (at_inside a k row e) in
+      let between = at_within b k inside in
+      h.each k between.0 later between.1 f l ∙ g.each k row between.0 e between.1 l);
+}
+
 -- one row in another order
 pub AreReordered-set : (rows : List (List Literal)) (k : ℕ) (row later : List Literal) → slice_get rows k ≡ Some row → ((l : Literal) → has later l ≡ has row l)
     → AreReordered rows (set rows k later)

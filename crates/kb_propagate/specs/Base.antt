@@ -7,8 +7,9 @@ use Rattle.kb_chain.specs.Propagation.{all_negated, IsFresh}
 use Rattle.kb_chain.specs.declared.log.Chain.{Chain}
 use Rattle.kb_propagate.specs.Trail.{Assigned, before_level, HasReasons}
 use Rattle.kb_propagate.specs.Store.{IsJustified}
-use Rattle.kb_propagate.specs.Rows.{rows_of}
+use Rattle.kb_propagate.specs.Rows.{rows_of, AreReordered}
 use Rattle.kb_propagate.specs.Watches.{Pair, pairs_of, IsWatching, AllListed, AllAwake, Quiet}
+use Rattle.kb_propagate.specs.Forgetting.{AreLeftOrEmpty}
 use Rattle.kb_propagate.specs.declared.watch.Watch.{Watch}
 use Rattle.kb_propagate.specs.declared.base.Base.{Base}
 
@@ -41,15 +42,17 @@ pub record IsReady (b : Base) : Type 0 where
 -- what propagation keeps
 pub record KeepsBase (old new : Base) : Type 0 where
   pub stands : Stands new
+  pub rows : AreReordered (rows_of old.clauses) (rows_of new.clauses)
   pub entries : new.entries ≡ old.entries
   pub formula : new.formula.now ≡ old.formula.now
   pub whole : new.whole ≡ old.whole
 
--- what stays where clauses are let go
+-- what stays where clauses are let go or deleted
 pub record Forgets (old new : Base) : Type 0 where
   pub stands : Stands new
   pub ready : IsReady new
   pub trail : new.trail ≡ old.trail
+  pub rows : AreLeftOrEmpty (rows_of old.clauses) (rows_of new.clauses)
   pub entries : new.entries ≡ old.entries
   pub formula : new.formula.now ≡ old.formula.now
 

@@ -1,5 +1,8 @@
 -- Clauses that are watched no longer.
-use Rattle.std.specs.Prelude.{ℕ, Bool, false, List, [], Option, Some, None, filter, slice_get, slice_set}
+use Rattle.std.specs.Prelude.{◌≡◌, ◌⊎◌, ℕ, Bool, false, List, [], length, Option, Some, None, filter, slice_get, slice_set}
+use Rattle.kb_chain.specs.Literal.{Literal}
+use Rattle.kb_propagate.specs.Trail.{Assigned}
+use Rattle.kb_propagate.specs.Store.{IsNoReason}
 use Rattle.kb_propagate.specs.Rows.{StoredClause}
 use Rattle.kb_propagate.specs.declared.watch.Watch.{Watch}
 
@@ -29,3 +32,12 @@ asleep_at clauses k (Some clause) = slice_set clauses k (record clause { awake =
 
 abbrev pub asleep : List StoredClause → ℕ → List StoredClause
 asleep clauses k = asleep_at clauses k (slice_get clauses k)
+
+-- each row is left as it is, or is empty
+pub record AreLeftOrEmpty (old new : List (List Literal)) : Type 0 where
+  pub count : length new ≡ length old
+  pub each : (k : ℕ) → (slice_get new k ≡ slice_get old k) ⊎ (slice_get new k ≡ Some [])
+
+-- the clause of this number is deleted, and no other one; where it is a reason, it stays too
+abbrev pub IsDeletedUnlessReason : Assigned → ℕ → List StoredClause → List StoredClause → Type 0
+IsDeletedUnlessReason t number old new = (IsNoReason t number × (new ≡ deleted old number)) ⊎ ((IsNoReason t number → ⊥) × (new ≡ old))

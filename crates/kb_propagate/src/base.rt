@@ -1,12 +1,12 @@
 //! The base of a search: its clauses with their derivations in the log, the literals that are true, and the watches that tell
 //! what the clauses force. Under proof: the log derives each clause, and what propagation meets.
-ghost use Rattle.std.specs.Prelude.{◌≡◌, ℕ, ◌+◌, ◌<◌, true, List, [], ◌∷◌, length, slice_get, Some, OnOk, IfOk, IfSome, IfNone};
+ghost use Rattle.std.specs.Prelude.{◌≡◌, ℕ, ◌<◌, true, [], length, slice_get, Some, OnOk, IfOk, IfSome, IfNone};
 ghost use Rattle.kb_propagate.specs.Base.{Stands, IsReady, KeepsBase, Forgets, IsConflict, IsPropagated, IsSecondLiteral, IsDoomed};
-ghost use Rattle.std.specs.Bool.{OnFalse};
-ghost use Rattle.kb_chain.specs.Literal.{Literal};
+ghost use Rattle.std.specs.Bool.{OnTrue, OnFalse};
 ghost use Rattle.kb_propagate.specs.Trail.{TrailGrows};
 ghost use Rattle.kb_propagate.specs.Store.{IsNoReason};
 ghost use Rattle.kb_propagate.specs.Rows.{rows_of};
+ghost use Rattle.kb_propagate.specs.Forgetting.{asleep, IsDeletedUnlessReason};
 ghost use Rattle.kb_propagate.specs.Watches.{pairs_of, IsAwake};
 
 use crate::NoMemory;
@@ -90,11 +90,13 @@ impl<'a> Base<'a> {
         Ok(None)
     }
 
-    /// Lets a clause go: it is watched no longer. The base is whole no longer.
+    /// Lets a clause go: it is watched no longer, but its literals stay. The base is whole no longer.
     pub fn let_go(&mut self, number: u32)
         requires stands { Stands self.old }
         requires ready { IsReady self.old }
-        ensures { Forgets self.old self.new }
+        ensures forgets { Forgets self.old self.new }
+        ensures rows { rows_of self.new.clauses ≡ rows_of self.old.clauses }
+        ensures clauses { self.new.clauses ≡ asleep self.old.clauses number }
     {
         self.whole = false;
         self.clauses.let_go(number);
@@ -104,7 +106,8 @@ impl<'a> Base<'a> {
     pub fn delete(&mut self, number: u32)
         requires stands { Stands self.old }
         requires ready { IsReady self.old }
-        ensures { Forgets self.old self.new }
+        ensures forgets { Forgets self.old self.new }
+        ensures clauses { IsDeletedUnlessReason self.old.trail number self.old.clauses self.new.clauses }
     {
         if self.is_reason(number) {
             return;
@@ -115,8 +118,8 @@ impl<'a> Base<'a> {
 
     /// Whether a clause is the reason of one of its literals.
     pub fn is_reason(&self, number: u32) -> bool
-        requires { Stands self.now }
-        ensures { OnFalse result (IsNoReason self.now.trail number) }
+        ensures reason { OnTrue result (IsNoReason self.now.trail number → ⊥) }
+        ensures none { Stands self.now → OnFalse result (IsNoReason self.now.trail number) }
     {
         self.trail.tell_trail();
         if number >= self.clauses.len() {
@@ -135,6 +138,7 @@ impl<'a> Base<'a> {
         requires stands { Stands self.old }
         requires ready { IsReady self.old }
         ensures forgets { Forgets self.old self.new }
+        ensures clauses { self.new.clauses ≡ self.old.clauses }
         ensures whole { self.new.whole ≡ self.old.whole }
     {
         self.watches.purge(&self.clauses);
@@ -144,7 +148,8 @@ impl<'a> Base<'a> {
 
 /// Whether the clause of a number is the reason of a literal that is true.
 fn forces(trail: &Trail, number: u32, literal: Lit) -> bool
-    ensures { OnFalse result ((i : ℕ) → slice_get trail.now.literals i ≡ Some literal → slice_get trail.now.reasons i ≡ Some (Some number) → ⊥) }
+    ensures forced { OnTrue result ((i : ℕ) × (slice_get trail.now.reasons i ≡ Some (Some number))) }
+    ensures free { OnFalse result ((i : ℕ) → slice_get trail.now.literals i ≡ Some literal → slice_get trail.now.reasons i ≡ Some (Some number) → ⊥) }
 {
     trail.tell_once();
     if !trail.is_true(literal) {

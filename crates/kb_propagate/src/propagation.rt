@@ -37,6 +37,7 @@ pub fn propagate(
     ensures quiet { IfOk result (λ conflict. IfNone conflict
         (Quiet (rows_of clauses.new) (pairs_of clauses.new) (has trail.new.literals) (has trail.new.literals))) }
     ensures conflict { IfOk result (λ conflict. IfSome conflict (λ number. IsConflict (rows_of clauses.new) trail.new number × IsAwake (pairs_of clauses.new) number)) }
+    ensures reordered { OnOk result (AreReordered (rows_of clauses.old) (rows_of clauses.new)) }
     ensures stays { OnOk result (StaysQuiet clauses.old clauses.new (has trail.old.literals)) }
     ensures grows { OnOk result (TrailGrows trail.old trail.new) }
     ensures justified { OnOk result ((all : List (List Literal)) → IsJustified all (rows_of clauses.old) trail.old → IsJustified all (rows_of clauses.new) trail.new) }
@@ -67,6 +68,7 @@ fn visit(
     ensures quiet { IfOk result (λ conflict. IfNone conflict
         (Quiet (rows_of clauses.new) (pairs_of clauses.new) (has (take (position + 1) trail.new.literals)) (has trail.new.literals))) }
     ensures conflict { IfOk result (λ conflict. IfSome conflict (λ number. IsConflict (rows_of clauses.new) trail.new number × IsAwake (pairs_of clauses.new) number)) }
+    ensures reordered { OnOk result (AreReordered (rows_of clauses.old) (rows_of clauses.new)) }
     ensures stays { OnOk result (StaysQuiet clauses.old clauses.new (has trail.old.literals)) }
     ensures grows { OnOk result (TrailGrows trail.old trail.new) }
     ensures justified { OnOk result ((all : List (List Literal)) → IsJustified all (rows_of clauses.old) trail.old → IsJustified all (rows_of clauses.new) trail.new) }
@@ -108,6 +110,7 @@ fn walk(
         → Walks early (has trail.old.literals) (rows_of clauses.old) (pairs_of clauses.old) (with_list lists.old.items falsified []) list.old falsified
         → Quiet (rows_of clauses.new) (pairs_of clauses.new) early (has trail.new.literals))) }
     ensures conflict { IfOk result (λ conflict. IfSome conflict (λ number. IsConflict (rows_of clauses.new) trail.new number × IsAwake (pairs_of clauses.new) number)) }
+    ensures reordered { OnOk result (AreReordered (rows_of clauses.old) (rows_of clauses.new)) }
     ensures stays { OnOk result (StaysQuiet clauses.old clauses.new (has trail.old.literals)) }
     ensures grows { OnOk result (TrailGrows trail.old trail.new) }
     ensures justified { OnOk result ((all : List (List Literal)) → IsJustified all (rows_of clauses.old) trail.old → IsJustified all (rows_of clauses.new) trail.new) }

@@ -33,6 +33,7 @@ use Rattle.kb_path_words.specs.Ranges.{IsSmall}
 use Rattle.kb_report_text.specs.Ranges.{OriginFits}
 use Rattle.kb_heap_words.proofs.Lacking.{IsGap, digits_lack, name_lacks, gap_in_name, type_lacks, above, space, dot, colon, bracket, bracket_end}
 use Rattle.kb_heap_words.proofs.NameLaws.{same_name, same_type}
+use Rattle.kb_heap_words.proofs.WordLaws.{same_digits}
 use Rattle.kb_report_laws.proofs.Sections.{unlike}
 use Rattle.kb_report_laws.proofs.FieldLaws.{one_slot, slot_is_declared, only_one}
 
@@ -158,7 +159,7 @@ field_slot_text world objects object slot found = ap (λ (o : Option FieldSlot).
 pub slot_lacks : (byte : ℕ) → IsGap byte → (world : World) (params : ℕ) (objects : List PicObject) (slot : Origin) → OriginFits slot → IsSlot world params objects slot
     → Lacks byte (slot_text world objects slot)
 unfolding slot_text
-slot_lacks byte gap world params objects (Arg number) small is = lettered byte gap (codes "a") number refl small
+slot_lacks byte gap world params objects (Arg number) small is = (above 97 byte gap.low (omega arith), digits_lack byte number gap.apart small)
 slot_lacks byte gap world params objects (Field object slot) small is =
     let found = found_field world params objects object slot is in
     subst (Lacks byte) (sym (field_slot_text world objects object slot found))

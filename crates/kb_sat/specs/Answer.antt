@@ -6,6 +6,7 @@ use Rattle.kb_chain.specs.Chains.{IsRefutation}
 use Rattle.kb_chain.specs.Propagation.{IsFresh, UnitRefutes}
 use Rattle.kb_propagate.specs.Base.{Stands, IsComplete, IsConflict, IsDoomed, IsReady}
 use Rattle.kb_propagate.specs.Rows.{rows_of}
+use Rattle.kb_propagate.specs.Watches.{pairs_of, IsAwake}
 use Rattle.kb_sat.specs.Solver.{Equipped}
 use Rattle.kb_sat.specs.declared.search.Search.{Search}
 use Rattle.kb_sat.specs.declared.solver.Begun.{Begun}
@@ -47,7 +48,7 @@ BegunIs formula lets_go (Begun.Ready search eliminated) =
     Stands search.base × Equipped search × IsReady search.base × (search.base.formula.now ≡ formula)
     × (search.base.whole ≡ true → search.base.entries ≡ []) × (lets_go ≡ false → search.base.whole ≡ true)
 
--- a search of this formula at its end: where the budget is spent, a clause is false
+-- a search of this formula at its end: where the budget is spent, a clause that is watched is false
 abbrev pub EndedIs : Cnf → ℕ → Ended → Type 0
 EndedIs formula budget (Ended.Complete search) = Stands search.base × IsComplete search.base × (search.base.formula.now ≡ formula)
 EndedIs formula budget (Ended.Doomed search number) =
@@ -55,7 +56,7 @@ EndedIs formula budget (Ended.Doomed search number) =
 EndedIs formula budget (Ended.Spent search number) =
     Stands search.base × (search.base.formula.now ≡ formula)
     × (search.base.whole ≡ true → (length search.base.entries ≡ budget) × (UnitRefutes formula.clauses → ⊥))
-    × IsConflict (rows_of search.base.clauses) search.base.trail number
+    × IsConflict (rows_of search.base.clauses) search.base.trail number × IsAwake (pairs_of search.base.clauses) number
 
 -- the search at such an end
 abbrev pub at_end : Search → End → Ended

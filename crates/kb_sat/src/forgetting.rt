@@ -1,6 +1,6 @@
 //! Clause database reduction: learned clauses of little use are let go (as in Glucose: Audemard and Simon, 2009). Which ones is
 //! free; that nothing relies on them any longer is under proof.
-ghost use Rattle.std.specs.Prelude.{◌≡◌, ◌<◌, length, OnOk};
+ghost use Rattle.std.specs.Prelude.{◌<◌, length, OnOk};
 ghost use Rattle.kb_propagate.specs.Rows.{rows_of};
 ghost use Rattle.kb_propagate.specs.Base.{Stands, IsReady, Forgets};
 ghost use Rattle.kb_sat.specs.Solver.{Equipped};
@@ -40,9 +40,7 @@ pub(crate) fn forget(alloc: Global, search: &mut Search<'_>) -> Result<(), NoMem
 }
 
 /// The learned clauses that may be let go.
-fn candidates(alloc: Global, search: &Search<'_>) -> Result<Vec<Candidate>, NoMemory>
-    requires { Stands search.now.base }
-{
+fn candidates(alloc: Global, search: &Search<'_>) -> Result<Vec<Candidate>, NoMemory> {
     let mut found = Vec::new(alloc);
     for number in 0..search.base.clauses.len() {
         if let Some(candidate) = as_candidate(search, number) {
@@ -54,8 +52,7 @@ fn candidates(alloc: Global, search: &Search<'_>) -> Result<Vec<Candidate>, NoMe
 
 /// The clause of this number, if it is one that may be let go.
 fn as_candidate(search: &Search<'_>, number: u32) -> Option<Candidate>
-    requires stands { Stands search.now.base }
-    requires number { number < length (rows_of search.now.base.clauses) }
+    requires { number < length (rows_of search.now.base.clauses) }
 {
     let rank = search.ranks.ranks.get(number as usize)?;
     if rank.used || rank.levels <= STAYING_LEVELS {

@@ -19,7 +19,7 @@ use kb_heap::Bounds;
 use kb_picture::Choice;
 use kb_semantics::World;
 use kb_terms::TermId;
-use kb_ways::{Condition, Side, branch_condition, equals_number, is_against, only};
+use kb_ways::{Condition, Side, branch_condition, equals_number, is_against, only_way_on};
 use std::alloc::Global;
 
 /// The alternatives of the next step of a state, in their order. Whether a branch is taken: not, then taken. Of a switch each
@@ -40,7 +40,7 @@ pub fn choices_int(
 {
     match question_next(world, state, bounds) {
         Some(question) => alternatives(alloc, state, &question),
-        None => only(alloc),
+        None => only_way_on(alloc),
     }
 }
 

@@ -40,7 +40,7 @@ pub fn int_steps_keep()
 {}
 
 /// The only way on adds no condition: one is added where something was chosen.
-pub fn only_int_steps_add_no_condition()
+pub fn int_steps_without_choice_add_no_condition()
     ensures { OfStates (λ world bounds state. AddsNoCondition state (taken world bounds state Only).state) }
 {}
 

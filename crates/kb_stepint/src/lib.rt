@@ -24,7 +24,7 @@ pub use choices::choices_int;
 pub use int_methods::is_int_method;
 pub use laws::{
     int_methods_begin, int_steps_get_on, int_steps_keep, int_steps_simulate,
-    only_int_steps_add_no_condition,
+    int_steps_without_choice_add_no_condition,
 };
 pub use std::alloc::AllocError as NoMemory;
 pub use take::take_int;

@@ -16,7 +16,7 @@ use kb_lazy::read_choices;
 use kb_names::JType;
 use kb_picture::{Choice, Origin};
 use kb_semantics::World;
-use kb_ways::{Question, only};
+use kb_ways::{Question, only_way_on};
 use std::alloc::Global;
 
 /// The alternatives of the next step of a state, in their order. Of a reference that is read for the first time they are null,
@@ -51,7 +51,7 @@ pub(crate) fn offered(
 {
     match question {
         Some(question) => alternatives(alloc, world, state, bounds, question),
-        None => only(alloc),
+        None => only_way_on(alloc),
     }
 }
 
@@ -82,7 +82,7 @@ fn read_alternatives(
     ensures { IfOk result (λ choices. choices.items ≡ alternatives world.now state.now bounds.now (Reads slot kind.now)) }
 {
     if !is_reference(kind) {
-        return only(alloc);
+        return only_way_on(alloc);
     }
     let choices = read_choices(
         alloc,

@@ -23,7 +23,7 @@ pub fn reference_steps_keep()
 {}
 
 /// The only way on adds no condition.
-pub fn only_reference_steps_add_no_condition()
+pub fn reference_steps_without_choice_add_no_condition()
     ensures { OfStates (λ world bounds state. AddsNoCondition state (taken world bounds state Only).state) }
 {}
 

@@ -19,8 +19,8 @@ mod take;
 pub use advance::advance_ref;
 pub use choices::choices_ref;
 pub use laws::{
-    only_reference_steps_add_no_condition, reference_steps_get_on, reference_steps_keep,
-    reference_steps_simulate,
+    reference_steps_get_on, reference_steps_keep, reference_steps_simulate,
+    reference_steps_without_choice_add_no_condition,
 };
 pub use std::alloc::AllocError as NoMemory;
 pub use take::take_ref;

@@ -200,8 +200,8 @@ impl Pool {
     }
 
     /// Adds the values of the terms behind those that `computed` has, which are those of the first terms, where each variable has
-    /// the entry of `inputs` at its number, and 0 past its end. It takes time in proportion to what it adds. Refused for want of
-    /// memory alone: then some values may have been added.
+    /// the entry of `inputs` at its number, and 0 past its end. It takes time in proportion to what it adds. Refused only
+    /// where memory runs out: then some values may have been added.
     pub fn extend_values(&self, inputs: &[i32], computed: &mut Vec<i32>) -> Result<(), NoMemory>
         requires { AreFirstValues inputs.now self.now computed.old.items }
         ensures all { OnOk result (computed.new.items ≡ values inputs.now self.now) }

@@ -19,7 +19,7 @@ use Rattle.kb_test.specs.declared.test_case.Test.{Test}
 use Rattle.kb_test.specs.declared.fronts.Open.{Open}
 use Rattle.kb_test.specs.declared.fronts.Open.TheVariants.{Between, Named, Started, Ended}
 use Rattle.kb_test.specs.declared.fronts.Front.{Front}
-use Rattle.kb_test_lines.specs.Words.{AreWordLists, word_below, words_below}
+use Rattle.kb_test_lines.specs.Words.{AreWordLists, IsWord, word_below, words_below}
 use Rattle.kb_test_lines.specs.Lines.{AreListed, IsLine, listed_below}
 use Rattle.kb_test.specs.Scripts.{in_lines, out_lines, new_lines, script_lines, script_below, limits_of, IsScript, AreScripts, scripts_lines}
 use Rattle.kb_test.specs.Tests.{test_of, tests_of}

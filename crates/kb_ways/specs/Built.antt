@@ -1,4 +1,4 @@
--- Which instructions are carried out by now, each by the steps of its kind (JVMS 8 section 6.5). A further kind of instruction is
+-- Which instructions are carried out for now, each by the steps of its kind (JVMS 8 section 6.5). A further kind of instruction is
 -- a further case.
 use Rattle.std.specs.Prelude.{◌≡◌, Bool, true, false, ◌||◌}
 use Rattle.std.specs.Option.{option_map_or}

@@ -17,7 +17,7 @@ pub enum Advanced {
 }
 
 /// The alternatives where nothing is chosen.
-pub fn only(alloc: Global) -> Result<Vec<Choice>, NoMemory>
+pub fn only_way_on(alloc: Global) -> Result<Vec<Choice>, NoMemory>
     ensures { IfOk result (λ choices. choices.items ≡ only) }
 {
     let mut choices = Vec::new(alloc);

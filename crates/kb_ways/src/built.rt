@@ -1,4 +1,4 @@
-//! Which instructions are carried out by now.
+//! Which instructions are carried out for now.
 ghost use Rattle.std.specs.Prelude.{◌≡◌};
 ghost use Rattle.kb_ways.specs.Built.{is_built_instruction, is_reference_instruction};
 

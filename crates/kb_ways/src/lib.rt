@@ -20,7 +20,7 @@ mod terms;
 mod turn;
 mod ways;
 
-pub use advanced::{Advanced, only};
+pub use advanced::{Advanced, only_way_on};
 pub use answers::{answer, passed_by};
 pub use asked::{ask, is_against};
 pub use built::is_built_instruction;

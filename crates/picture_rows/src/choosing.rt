@@ -1,11 +1,11 @@
 //! The alternatives for a slot that is read for the first time, or for a location that is looked into, as a line of a text.
 
-use crate::texts::add;
+use kb_asked::{add, add_exact};
 use kb_lazy::{read_choices, resolve_choices};
-use kb_names::{ExactType, JType, Spelling, read_type, write_name, write_type};
+use kb_names::{ExactType, JType, read_type};
 use kb_path_lines::{read_location, read_slot, split};
 use kb_picture::{Choice, Init, Length, Origin, Picture};
-use kb_table::{RowResult, RowStop, append_number, kept, read_number};
+use kb_table::{RowResult, RowStop, append_number, read_number};
 use kb_world::World;
 use std::alloc::Global;
 
@@ -164,16 +164,4 @@ fn add_fresh(alloc: Global, kind: &ExactType, length: Length, text: &mut Vec<u8>
         Length::Is(count) => append_number(alloc, " of ", i64::from(count), text),
         Length::Above(count) => append_number(alloc, " above ", i64::from(count), text),
     }
-}
-
-/// A class by its name, or an array by its descriptor.
-pub fn add_exact(kind: &ExactType, text: &mut Vec<u8>) -> RowResult<()> {
-    let written = match kind {
-        ExactType::Class(name) => write_name(name, text),
-        ExactType::Array(component) => {
-            add(b"[", text)?;
-            write_type(component, Spelling::Escaped, text)
-        }
-    };
-    kept(written)
 }

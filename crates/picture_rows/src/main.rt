@@ -7,15 +7,13 @@
 //! expected there was written by hand.
 #![tactic(auto)]
 
-mod answers;
-mod asked;
 mod choosing;
-mod emitting;
-mod texts;
 
-use asked::{Asked, add_line, nothing_asked};
+use choosing::add_choices;
+use kb_asked::{Asked, add_itself, add_line, nothing_asked};
 use kb_load::{InWorlds, WorldRows, read_world};
 use kb_outside::{FileShelf, OutSink, Shelf, Sink};
+use kb_path_lines::split;
 use kb_table::{RowResult, read_words, send, write_rows};
 use kb_world::World;
 use std::alloc::Global;
@@ -37,8 +35,26 @@ impl WorldRows for PathRows {
         out: &mut W,
     ) -> RowResult<()> {
         let mut text = Vec::new(alloc);
-        add_line(alloc, world, row, &mut self.asked, &mut text)?;
+        add_row(alloc, world, row, &mut self.asked, &mut text)?;
         send(out, text.as_slice())
+    }
+}
+
+/// Adds what a row comes to. A row `choices` asks of the picture of the path before it.
+fn add_row(
+    alloc: Global,
+    world: &World,
+    row: &str,
+    asked: &mut Asked,
+    text: &mut Vec<u8>,
+) -> RowResult<()> {
+    let (word, rest) = split(row);
+    match word.as_bytes() {
+        b"choices" => {
+            add_itself(row, text)?;
+            add_choices(alloc, world, &asked.path.get().picture, rest, text)
+        }
+        _ => add_line(alloc, world, row, asked, text),
     }
 }
 

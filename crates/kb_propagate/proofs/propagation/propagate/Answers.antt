@@ -6,7 +6,12 @@ use Rattle.kb_propagate.specs.Rows.{rows_of}
 use Rattle.kb_propagate.specs.Watches.{pairs_of, Quiet}
 use Rattle.kb_propagate.proofs.JustifyLaws.{TrailGrows-part, TrailGrows-trans}
 use Rattle.kb_propagate.proofs.WatchLaws.{StaysQuiet-trans, at_none}
+use Rattle.kb_propagate.proofs.ReorderLaws.{AreReordered-trans}
 use Rattle.kb_propagate.proofs.propagation.propagate.Goals as goal
+
+pub returns-in-Some-clause-reordered : goal.returns-in-Some-clause-reordered
+returns-in-Some-clause-reordered c =
+    AreReordered-trans (rows_of c.args.clauses.now) (rows_of c.loop-next.clauses) (rows_of c.visit.new.clauses) c.loop-next.invariant.reordered c.in_ok-number.ensures.reordered
 
 pub returns-in-Some-clause-stays : goal.returns-in-Some-clause-stays
 returns-in-Some-clause-stays c =
@@ -25,6 +30,7 @@ loop-next-preserved c =
       quiet = at_none c.in_ok-number.field-0
           (Quiet (rows_of c.visit.new.clauses) (pairs_of c.visit.new.clauses) (has (take (c.loop-next.next + 1) c.visit.new.trail.literals)) (has c.visit.new.trail.literals))
           c.in-None.is c.in_ok-number.ensures.quiet;
+      reordered = AreReordered-trans (rows_of c.args.clauses.now) (rows_of c.loop-next.clauses) (rows_of c.visit.new.clauses) c.loop-next.invariant.reordered c.in_ok-number.ensures.reordered;
       stays = StaysQuiet-trans c.args.clauses.now c.loop-next.clauses c.visit.new.clauses (has c.args.trail.now.literals)
           (has c.loop-next.trail.literals) (TrailGrows-part c.args.trail.now c.loop-next.trail c.loop-next.invariant.grows) c.loop-next.invariant.stays c.in_ok-number.ensures.stays;
       grows = TrailGrows-trans c.args.trail.now c.loop-next.trail c.visit.new.trail c.loop-next.invariant.grows c.in_ok-number.ensures.grows;

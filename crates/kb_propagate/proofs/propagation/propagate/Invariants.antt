@@ -2,7 +2,7 @@ use Rattle.std.proofs.Common.{◌+◌, ◌-◌, ◌*◌, ◌≤◌, length, List
 use Rattle.kb_chain.specs.Literal.{Literal, has}
 use Rattle.kb_propagate.specs.Trail.{TrailGrows}
 use Rattle.kb_propagate.specs.Store.{IsJustified}
-use Rattle.kb_propagate.specs.Rows.{rows_of}
+use Rattle.kb_propagate.specs.Rows.{rows_of, AreReordered}
 use Rattle.kb_propagate.specs.Watches.{pairs_of, IsWatching, AllListed, Quiet, StaysQuiet}
 use Rattle.kb_propagate.proofs.propagation.propagate.Given as goal
 
@@ -12,6 +12,7 @@ invariant-loop-next l = record {
   listed : AllListed l.watches.lists.items (pairs_of l.clauses);
   inside : l.next ≤ length l.trail.literals;
   quiet : Quiet (rows_of l.clauses) (pairs_of l.clauses) (has (take l.next l.trail.literals)) (has l.trail.literals);
+  reordered : AreReordered (rows_of l.fn.clauses) (rows_of l.clauses);
   stays : StaysQuiet l.fn.clauses l.clauses (has l.fn.trail.literals);
   grows : TrailGrows l.fn.trail l.trail;
   justified : (all : List (List Literal)) → IsJustified all (rows_of l.fn.clauses) l.fn.trail → IsJustified all (rows_of l.clauses) l.trail;

@@ -9,7 +9,7 @@ use Rattle.kb_propagate.specs.declared.propagation.Outcome.{Outcome}
 use Rattle.kb_propagate.specs.declared.watch.Watch.{Watch}
 use Rattle.kb_propagate.proofs.JustifyLaws.{TrailGrows-part, TrailGrows-trans}
 use Rattle.kb_propagate.proofs.WatchLaws.{AllListed-back, StaysQuiet-trans, Walks-end, Walks-next, Walks-written, blocked_front, blocked_cut, blocked_at, blocked_set, kept_at, at_conflict}
-use Rattle.kb_propagate.proofs.ReorderLaws.{blocked_reordered}
+use Rattle.kb_propagate.proofs.ReorderLaws.{AreReordered-trans, blocked_reordered}
 use Rattle.kb_propagate.proofs.propagation.walk.Goals as goal
 use Rattle.kb_propagate.proofs.propagation.walk.Goals.{After-truncate, in-Kept, in-Removed}
 
@@ -60,6 +60,7 @@ loop-next-preserved c =
                 ((subst (λ z. Follows (has c.loop-next.trail.literals) (has c.examine.new.trail.literals) (rows_of c.loop-next.clauses) (rows_of c.examine.new.clauses) (pairs_of c.loop-next.clauses) (pairs_of c.examine.new.clauses) c.loop-next.lists.items c.examine.new.lists.items w c.args.falsified z) v.in-Kept.is c.in_ok-outcome.ensures.walked) early (take kept xs) (drop (next + 1) xs) (λ l e. c.loop-next.invariant.part l (earlier l e))
                 (Walks-next early (has c.loop-next.trail.literals) (rows_of c.loop-next.clauses) (pairs_of c.loop-next.clauses) (with_list c.loop-next.lists.items c.args.falsified (take kept xs)) xs next w c.args.falsified
                 c.at-watch.ensures (c.loop-next.invariant.walks early earlier h)))));
+            reordered = AreReordered-trans (rows_of c.args.clauses.now) (rows_of c.loop-next.clauses) (rows_of c.examine.new.clauses) c.loop-next.invariant.reordered c.in_ok-outcome.ensures.reordered;
             stays = StaysQuiet-trans c.args.clauses.now c.loop-next.clauses c.examine.new.clauses (has c.args.trail.now.literals) (has c.loop-next.trail.literals)
                 c.loop-next.invariant.part c.loop-next.invariant.stays c.in_ok-outcome.ensures.stays;
             grows = TrailGrows-trans c.args.trail.now c.loop-next.trail c.examine.new.trail c.loop-next.invariant.grows grows;
@@ -82,6 +83,7 @@ loop-next-preserved c =
                 ((subst (λ z. Follows (has c.loop-next.trail.literals) (has c.examine.new.trail.literals) (rows_of c.loop-next.clauses) (rows_of c.examine.new.clauses) (pairs_of c.loop-next.clauses) (pairs_of c.examine.new.clauses) c.loop-next.lists.items c.examine.new.lists.items w c.args.falsified z) v.in-Removed.is c.in_ok-outcome.ensures.walked) early (take kept xs) (drop (next + 1) xs) (λ l e. c.loop-next.invariant.part l (earlier l e))
                 (Walks-next early (has c.loop-next.trail.literals) (rows_of c.loop-next.clauses) (pairs_of c.loop-next.clauses) (with_list c.loop-next.lists.items c.args.falsified (take kept xs)) xs next w c.args.falsified
                 c.at-watch.ensures (c.loop-next.invariant.walks early earlier h))));
+            reordered = AreReordered-trans (rows_of c.args.clauses.now) (rows_of c.loop-next.clauses) (rows_of c.examine.new.clauses) c.loop-next.invariant.reordered c.in_ok-outcome.ensures.reordered;
             stays = StaysQuiet-trans c.args.clauses.now c.loop-next.clauses c.examine.new.clauses (has c.args.trail.now.literals) (has c.loop-next.trail.literals)
                 c.loop-next.invariant.part c.loop-next.invariant.stays c.in_ok-outcome.ensures.stays;
             grows = TrailGrows-trans c.args.trail.now c.loop-next.trail c.examine.new.trail c.loop-next.invariant.grows grows;
@@ -112,6 +114,10 @@ returns-in-Conflict-clause-walked c early part h =
 pub returns-in-Conflict-clause-conflict : goal.returns-in-Conflict-clause-conflict
 returns-in-Conflict-clause-conflict c =
     at_conflict c.in_ok-outcome.outcome (IsConflict (rows_of c.examine.new.clauses) c.examine.new.trail c.at-watch.result.clause × IsAwake (pairs_of c.examine.new.clauses) c.at-watch.result.clause) c.in-Conflict.is c.in_ok-outcome.ensures.conflict
+
+pub returns-in-Conflict-clause-reordered : goal.returns-in-Conflict-clause-reordered
+returns-in-Conflict-clause-reordered c =
+    AreReordered-trans (rows_of c.args.clauses.now) (rows_of c.loop-next.clauses) (rows_of c.examine.new.clauses) c.loop-next.invariant.reordered c.in_ok-outcome.ensures.reordered
 
 pub returns-in-Conflict-clause-stays : goal.returns-in-Conflict-clause-stays
 returns-in-Conflict-clause-stays c =

@@ -2,7 +2,7 @@ use Rattle.std.proofs.Common.{◌≡◌, ◌+◌, ◌*◌, ◌<◌, ◌≤◌, l
 use Rattle.kb_chain.specs.Literal.{Literal, has, negated, place_of}
 use Rattle.kb_propagate.specs.Trail.{TrailGrows}
 use Rattle.kb_propagate.specs.Store.{IsJustified}
-use Rattle.kb_propagate.specs.Rows.{rows_of}
+use Rattle.kb_propagate.specs.Rows.{rows_of, AreReordered}
 use Rattle.kb_propagate.specs.Watches.{pairs_of, IsWatching, Walks, StaysQuiet, all_blocked, with_list}
 use Rattle.kb_propagate.proofs.propagation.walk.Given as goal
 
@@ -18,6 +18,7 @@ invariant-loop-next l = record {
   walks : (early : Literal → Bool) → ((m : Literal) → early m ≡ true → has l.fn.trail.literals m ≡ true)
       → Walks early (has l.fn.trail.literals) (rows_of l.fn.clauses) (pairs_of l.fn.clauses) (with_list l.fn.lists.items l.falsified []) l.fn.list l.falsified
       → Walks early (has l.trail.literals) (rows_of l.clauses) (pairs_of l.clauses) (with_list l.lists.items l.falsified (take l.kept l.list)) (drop l.next l.list) l.falsified;
+  reordered : AreReordered (rows_of l.fn.clauses) (rows_of l.clauses);
   stays : StaysQuiet l.fn.clauses l.clauses (has l.fn.trail.literals);
   grows : TrailGrows l.fn.trail l.trail;
   justified : (all : List (List Literal)) → IsJustified all (rows_of l.fn.clauses) l.fn.trail → IsJustified all (rows_of l.clauses) l.trail;

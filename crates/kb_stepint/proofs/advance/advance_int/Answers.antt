@@ -17,11 +17,11 @@ take_int-requires-clause-listed c =
     let alone : choices_of c.args.world.now c.args.state.now c.args.bounds.now ≡ only = c.question_next.ensures.offered ∙ ap (offered_by c.args.state.now) c.in-None.is in
     subst (λ (choices : List Choice). Has choices Only) (sym alone) (0, refl)
 
-pub returns-in-Some-clause-advanced : goal.returns-in-Some-clause-advanced
-returns-in-Some-clause-advanced c =
+pub returns-in_ok-choices-in-Some-clause-advanced : goal.returns-in_ok-choices-in-Some-clause-advanced
+returns-in_ok-choices-in-Some-clause-advanced c =
     let offered : choices_of c.args.world.now c.args.state.now c.args.bounds.now ≡ offered_by c.args.state.now (Some c.in-Some.question) =
     c.question_next.ensures.offered ∙ ap (offered_by c.args.state.now) c.in-Some.is in
-    (refl, c.in_ok-choices.ensures ∙ sym offered, λ is. chosen_not_only c.args.state.now c.in-Some.question (sym offered ∙ is))
+    (refl, c.in_ok-choices-in-Some.ensures ∙ sym offered, λ is. chosen_not_only c.args.state.now c.in-Some.question (sym offered ∙ is))
 
-pub returns-in-None-clause-advanced : goal.returns-in-None-clause-advanced
-returns-in-None-clause-advanced c = (c.question_next.ensures.offered ∙ ap (offered_by c.args.state.now) c.in-None.is, c.in_ok-outcome.ensures.take)
+pub returns-in_ok-outcome-in-None-clause-advanced : goal.returns-in_ok-outcome-in-None-clause-advanced
+returns-in_ok-outcome-in-None-clause-advanced c = (c.question_next.ensures.offered ∙ ap (offered_by c.args.state.now) c.in-None.is, c.in_ok-outcome-in-None.ensures.take)

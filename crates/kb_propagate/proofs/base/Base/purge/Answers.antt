@@ -1,9 +1,9 @@
-use Rattle.std.proofs.Common.{sym, subst, refl, take}
+use Rattle.std.proofs.Common.{ap, sym, subst, refl, take}
 use Rattle.kb_chain.specs.Literal.{has}
 use Rattle.kb_propagate.specs.Rows.{rows_of}
 use Rattle.kb_propagate.specs.Watches.{pairs_of, Quiet}
 use Rattle.kb_propagate.specs.Base.{IsBase}
-use Rattle.kb_propagate.proofs.ForgetLaws.{IsBase-purged}
+use Rattle.kb_propagate.proofs.ForgetLaws.{IsBase-purged, AreLeftOrEmpty-same}
 use Rattle.kb_propagate.proofs.base.Base.purge.Goals as goal
 
 pub returns-clause-forgets : goal.returns-clause-forgets
@@ -16,6 +16,7 @@ returns-clause-forgets c = (let s = c.args.self.now in record {
     quiet = subst (λ z. Quiet (rows_of z) (pairs_of z) (has (take s.head s.trail.literals)) (has s.trail.literals)) (sym c.compact.ensures) c.requires.ready.quiet;
   };
   trail = refl;
+  rows = AreLeftOrEmpty-same (rows_of s.clauses) (rows_of c.compact.new.self) (ap rows_of c.compact.ensures);
   entries = refl;
   formula = refl;
 })

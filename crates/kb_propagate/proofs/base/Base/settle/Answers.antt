@@ -13,6 +13,7 @@ returns-in-Some-clause-keeps c =
       stands = IsBase-propagated s.formula.now s.entries s.clauses c.propagate.new.clauses s.watches.lists.items c.propagate.new.watches.lists.items
           s.trail c.propagate.new.trail s.whole c.requires.stands c.tell_trail.ensures c.in_ok-conflict.ensures.watching c.in_ok-conflict.ensures.listed c.in_ok-conflict.ensures.stays
           c.in_ok-conflict.ensures.grows c.in_ok-conflict.ensures.justified;
+      rows = c.in_ok-conflict.ensures.reordered;
       entries = refl;
       formula = refl;
       whole = refl;
@@ -25,6 +26,7 @@ returns-clause-keeps c =
       stands = IsBase-propagated s.formula.now s.entries s.clauses c.propagate.new.clauses s.watches.lists.items c.propagate.new.watches.lists.items
           s.trail c.propagate.new.trail s.whole c.requires.stands c.tell_trail.ensures c.in_ok-conflict.ensures.watching c.in_ok-conflict.ensures.listed c.in_ok-conflict.ensures.stays
           c.in_ok-conflict.ensures.grows c.in_ok-conflict.ensures.justified;
+      rows = c.in_ok-conflict.ensures.reordered;
       entries = refl;
       formula = refl;
       whole = refl;

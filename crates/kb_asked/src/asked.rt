@@ -1,9 +1,8 @@
 //! The lines of a table, one after the other.
 
 use crate::answers::add_answer;
-use crate::choosing::add_choices;
 use crate::emitting::emit;
-use crate::texts::add;
+use crate::texts::add_itself;
 use kb_heap::Input;
 use kb_names::{Target, read_target};
 use kb_path_lines::{add_to_input, add_to_path, no_input, path_of, split};
@@ -40,8 +39,8 @@ pub fn held_input(alloc: Global, input: Input) -> RowResult<Held<Input>> {
     Ok(Held::new(alloc, input)?)
 }
 
-/// Adds what a line comes to. A line `ask` asks of the path and the input before it, `choices` of the picture alone, and `emit`
-/// makes the input that the path carries; the lines with the names of paths and inputs are written as they are.
+/// Adds what a line comes to. A line `ask` asks of the path and the input before it, and `emit` makes the input that the path
+/// carries; the lines with the names of paths and inputs are written as they are.
 pub fn add_line(
     alloc: Global,
     world: &World,
@@ -52,10 +51,6 @@ pub fn add_line(
     let (word, rest) = split(line);
     match word.as_bytes() {
         b"ask" => add_answer(alloc, world, asked, text),
-        b"choices" => {
-            add_itself(line, text)?;
-            add_choices(alloc, world, &asked.path.get().picture, rest, text)
-        }
         b"emit" => {
             add_itself(line, text)?;
             emit(alloc, world, rest, asked, text)
@@ -66,11 +61,6 @@ pub fn add_line(
         }
         _ => take(alloc, word, rest, asked),
     }
-}
-
-fn add_itself(line: &str, text: &mut Vec<u8>) -> RowResult<()> {
-    add(line.as_bytes(), text)?;
-    add(b"\n", text)
 }
 
 /// Takes a line of a path or an input; the first line of either begins it anew.

@@ -1,8 +1,7 @@
 //! The input that a path carries, as lines of a text.
 
 use crate::asked::{Asked, held_input};
-use crate::choosing::add_exact;
-use crate::texts::add;
+use crate::texts::{add, add_exact};
 use kb_heap::{Input, Object, Value};
 use kb_input::input_of;
 use kb_load::reached;
