@@ -7,7 +7,8 @@ ghost use Rattle.kb_picture.specs.declared.picture.Seen.{Seen};
 ghost use Rattle.kb_picture.specs.declared.picture.Standing.{Standing};
 ghost use Rattle.kb_path_words.specs.Spelled.{SpellsSeen, SpellsStanding, SpellsTerm, SpellsOut, SpellsValue, SpellsDecisions};
 
-/// A text is that of one word alone. The function does nothing: it carries the law.
+/// A text is that of one word alone: of what a slot is seen as, what a location stands for, terms, values that are stated, values
+/// of inputs, and decisions. The function does nothing: it carries the law.
 pub fn each_word_is_of_one()
     ensures seen { (one other : Seen) (text : List ℕ) → SpellsSeen one text → SpellsSeen other text → one ≡ other }
     ensures standing { (one other : Standing) (text : List ℕ) → SpellsStanding one text → SpellsStanding other text → one ≡ other }
