@@ -45,6 +45,8 @@ use std::alloc::{AllocError, AllocFailed, Global};
 
 @STOP@
 
+const TARGET: &[u8] = b"Node.f()I";
+
 /// A call that is timed.
 #[derive(Clone, Copy)]
 enum Call {
@@ -75,12 +77,7 @@ fn call_of(word: &[u8]) -> Option<Call> {
     }
 }
 
-fn number(word: &String) -> Option<u32> {
-    match word.as_str().parse::<u32>() {
-        Ok(number) => Some(number),
-        Err(_) => None,
-    }
-}
+@NUMBER@
 
 /// The words are how many locations are bound, a call, how many objects it should give, how often it is made, and a class file in
 /// digits to base 16.
@@ -212,20 +209,10 @@ fn read(world: &World, slot: Origin, state: &mut SymState) -> Result<(), Stop> {
 }
 
 fn first_state(alloc: Global, world: &World) -> Result<Held<SymState>, Stop> {
-    let method = method_of(alloc, world)?;
+    let method = method_of(alloc, world, TARGET)?;
     match start(alloc, world, method, Init::Lazier) {
         Ok(state) => Ok(Held::new(alloc, state)?),
         Err(_) => Err(Stop),
-    }
-}
-
-fn method_of(alloc: Global, world: &World) -> Result<MethodId, Stop> {
-    let Ok(target) = read_target(alloc, b"Node.f()I") else {
-        return Err(Stop);
-    };
-    match world.find_target(&target) {
-        Some(method) => Ok(method),
-        None => Err(Stop),
     }
 }
 
@@ -244,17 +231,7 @@ fn fresh_of(alloc: Global, kind: &ExactType) -> Result<Choice, Stop> {
     }
 }
 
-/// The world of the classes whose files these digits spell.
-fn world_in(alloc: Global, words: &[String]) -> Result<World, Stop> {
-    let mut files = Vec::new(alloc);
-    for word in words {
-        files.push(bytes_of(alloc, word.as_bytes())?)?;
-    }
-    match world_of(alloc, files.as_slice()) {
-        Some(world) => Ok(world),
-        None => Err(Stop),
-    }
-}
+@WORLD@
 
 @DIGITS@
 """, """\
@@ -270,17 +247,11 @@ WORK = 2_000_000
 PROGRAM = Program(name=NAME, crates=CRATES, source=SOURCE, trial=["5", "objects", "10", "1", NODE])
 
 
-def timed(half, call, wanted, times):
-    return PROGRAM.timed_run([*map(str, [half, call, wanted, times]), NODE], f"{times}\n".encode())
-
-
 def measured(size, call, runs):
     """The processor seconds of one call."""
-    half, times = size // 2, WORK // size
+    half = size // 2
     wanted = size if call == "objects" else half
-    bare = min(timed(half, call, wanted, 0) for _ in range(runs))
-    full = min(timed(half, call, wanted, times) for _ in range(runs))
-    return max(full - bare, 1e-9) / times
+    return PROGRAM.seconds_of_call(lambda times: [half, call, wanted, times, NODE], WORK // size, runs)
 
 
 def print_bindings(runs):

@@ -93,12 +93,45 @@ fn value_of(digit: u8) -> u8 {
 }
 """
 
+# The world of the classes whose files the words spell, and a method of it.
+WORLD = """\
+fn world_in(alloc: Global, words: &[String]) -> Result<World, Stop> {
+    let mut files = Vec::new(alloc);
+    for word in words {
+        files.push(bytes_of(alloc, word.as_bytes())?)?;
+    }
+    match world_of(alloc, files.as_slice()) {
+        Some(world) => Ok(world),
+        None => Err(Stop),
+    }
+}
+
+fn method_of(alloc: Global, world: &World, target: &[u8]) -> Result<MethodId, Stop> {
+    let Ok(target) = read_target(alloc, target) else {
+        return Err(Stop);
+    };
+    match world.find_target(&target) {
+        Some(method) => Ok(method),
+        None => Err(Stop),
+    }
+}
+"""
+
+NUMBER = """\
+fn number(word: &String) -> Option<u32> {
+    match word.as_str().parse::<u32>() {
+        Ok(number) => Some(number),
+        Err(_) => None,
+    }
+}
+"""
+
 
 def with_main(source, arms):
-    """The source with the `main` that prints the Option which its `answer` gives, what `main` uses, `Stop`, and the bytes that
-    digits spell, where it asks for them. The arms print the Option."""
-    source = source.replace("@USES@\n", USES).replace("@MAIN@\n", MAIN.replace("@ARMS@", arms))
-    return source.replace("@STOP@\n", STOP).replace("@DIGITS@\n", DIGITS)
+    """The source with the `main` that prints the Option which its `answer` gives, what `main` uses, and the other pieces above,
+    where it asks for them. The arms print the Option."""
+    source = source.replace("@USES@\n", USES).replace("@MAIN@\n", MAIN.replace("@ARMS@", arms)).replace("@STOP@\n", STOP)
+    return source.replace("@DIGITS@\n", DIGITS).replace("@WORLD@\n", WORLD).replace("@NUMBER@\n", NUMBER)
 
 
 def with_those_below(line):
@@ -182,6 +215,14 @@ class Program:
         if run.returncode != 0 or run.stdout != wanted:
             sys.exit(f"{' '.join(words)}: status {run.returncode}, {run.stdout!r} and not {wanted!r}")
         return took
+
+    def seconds_of_call(self, words_for, times, runs):
+        """The processor seconds of one call, of a program that makes it as often as its words say and prints how often it
+        answered as wanted: the mean of so many, less that of a run which makes none, each the least of some runs."""
+        bare, full = (
+            min(self.timed_run([*map(str, words_for(count))], f"{count}\n".encode()) for _ in range(runs)) for count in (0, times)
+        )
+        return max(full - bare, 1e-9) / times
 
 
 def processor_seconds():

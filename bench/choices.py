@@ -51,6 +51,8 @@ use std::alloc::{AllocError, AllocFailed, Global};
 
 @STOP@
 
+const TARGET: &[u8] = b"Node.f()I";
+
 /// What was read of each object beside its int and the next one.
 #[derive(Clone, Copy)]
 enum Shape {
@@ -100,12 +102,7 @@ fn call_of(word: &[u8]) -> Option<Call> {
     }
 }
 
-fn number(word: &String) -> Option<u32> {
-    match word.as_str().parse::<u32>() {
-        Ok(number) => Some(number),
-        Err(_) => None,
-    }
-}
+@NUMBER@
 
 /// The words are a shape, how many objects and classes there are, a call, how many choices or objects it should give, how often
 /// it is made, and class files in digits to base 16.
@@ -154,7 +151,7 @@ fn count_of(
     picture: &Picture,
     asked: Asked,
 ) -> Result<Option<u32>, Stop> {
-    let method = method_of(alloc, world)?;
+    let method = method_of(alloc, world, TARGET)?;
     let input = emitted(alloc, world, method, picture)?;
     count_with(alloc, world, method, picture, &input, asked)
 }
@@ -279,27 +276,7 @@ fn declared(alloc: Global) -> Result<JType, Stop> {
     }
 }
 
-fn method_of(alloc: Global, world: &World) -> Result<MethodId, Stop> {
-    let Ok(target) = read_target(alloc, b"Node.f()I") else {
-        return Err(Stop);
-    };
-    match world.find_target(&target) {
-        Some(method) => Ok(method),
-        None => Err(Stop),
-    }
-}
-
-/// The world of the classes whose files these digits spell.
-fn world_in(alloc: Global, words: &[String]) -> Result<World, Stop> {
-    let mut files = Vec::new(alloc);
-    for word in words {
-        files.push(bytes_of(alloc, word.as_bytes())?)?;
-    }
-    match world_of(alloc, files.as_slice()) {
-        Some(world) => Ok(world),
-        None => Err(Stop),
-    }
-}
+@WORLD@
 
 @DIGITS@
 
@@ -433,17 +410,10 @@ def wanted(shape, size, classes, call):
     return size if shape == "chain" else 2 * size
 
 
-def timed(shape, size, classes, call, times):
-    words = [shape, size, classes - 1, call, wanted(shape, size, classes, call), times]
-    return PROGRAM.timed_run([*map(str, words), *WORLDS[classes]], f"{times}\n".encode())
-
-
 def measured(shape, size, classes, call, runs):
     """The processor seconds of one call."""
-    times = WORK // size
-    bare = min(timed(shape, size, classes, call, 0) for _ in range(runs))
-    full = min(timed(shape, size, classes, call, times) for _ in range(runs))
-    return max(full - bare, 1e-9) / times
+    words = [shape, size, classes - 1, call, wanted(shape, size, classes, call)]
+    return PROGRAM.seconds_of_call(lambda times: [*words, times, *WORLDS[classes]], WORK // size, runs)
 
 
 def ratio(took, before):

@@ -349,16 +349,9 @@ SIZES = [10, 100, 1_000, 10_000]
 WORK = 2_000_000
 
 
-def timed(call, size, times):
-    return PROGRAM.timed_run([CLASS, call, str(size), str(times)], f"{times}\n".encode())
-
-
 def measured(call, size, runs):
     """The processor seconds of one call."""
-    times = WORK // size
-    bare = min(timed(call, size, 0) for _ in range(runs))
-    full = min(timed(call, size, times) for _ in range(runs))
-    return max(full - bare, 0) / times
+    return PROGRAM.seconds_of_call(lambda times: [CLASS, call, size, times], WORK // size, runs)
 
 
 def main():
