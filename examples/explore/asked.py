@@ -27,6 +27,7 @@ OPERATIONS = {
     "byte": lambda formula, bits: bits[:8] + bits[7:8] * 24, "short": lambda formula, bits: bits[:16] + bits[15:16] * 16,
     "char": lambda formula, bits: bits[:16] + [FALSE] * 16,
     "lt": lambda formula, left, right: of_bit(formula.less(left, right)),
+    "ult": lambda formula, left, right: of_bit(formula.less_unsigned(left, right)),
     "eq": lambda formula, left, right: of_bit(formula.equal(left, right)),
 }  # fmt: skip
 

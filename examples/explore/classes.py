@@ -9,7 +9,8 @@ byte.
 import re
 import struct
 
-STATIC, INTERFACE, ABSTRACT = 0x0008, 0x0200, 0x0400
+PRIVATE, STATIC, INTERFACE, ABSTRACT = 0x0002, 0x0008, 0x0200, 0x0400
+OBJECT, THROWABLE, STRING = "java/lang/Object", "java/lang/Throwable", "java/lang/String"
 
 # name, superclass, superinterfaces
 PLATFORM = [line.split() for line in """
@@ -57,9 +58,11 @@ class Reader:
 class Member:
     """A field, or a method with its code, if it has one."""
 
+    is_of_platform = False
+
     def __init__(self, reader, file):
         self.flags, name, kind, count = reader.take("HHHH")
-        self.name, self.kind, self.code = file.text(name), file.text(kind), None
+        self.name, self.kind, self.code, self.file = file.text(name), file.text(kind), None, file
         for _ in range(count):
             named, length = reader.take("HI")
             content = reader.skip(length)
@@ -70,12 +73,28 @@ class Member:
     def is_static(self):
         return bool(self.flags & STATIC)
 
+    @property
+    def is_selected(self):
+        """Whether selection may take the method."""
+        return not self.flags & (PRIVATE | STATIC)
+
+
+class PlatformMethod:
+    """A method of a platform class that may be called: a constructor that does nothing, or Object.equals."""
+
+    is_of_platform, is_static, is_selected, code = True, False, True, None
+
+    def __init__(self, name):
+        self.name = name
+
 
 class Code:
+    """Each handler has its first offset, the one behind its last, the one that it is at, and the entry of what it takes."""
+
     def __init__(self, reader):
         self.stack, self.locals, length = reader.take("HHI")
         self.bytes = reader.skip(length)
-        self.handlers = reader.take("H")
+        self.handlers = [reader.take("HHHH") for _ in range(reader.take("H"))]
 
 
 class ClassFile:
@@ -100,8 +119,15 @@ class ClassFile:
         tag, value = self.pool[number]
         return struct.unpack(">i", value)[0] if tag == 3 else None
 
-    def field_named(self, number):
-        """Class, name and descriptor of a Fieldref."""
+    def literal(self, number):
+        """The text of a String entry."""
+        return self.text(self.pool[number][1])
+
+    def literals(self):
+        return {self.text(value) for tag, value in filter(None, self.pool) if tag == 8}
+
+    def member_named(self, number):
+        """Class, name and descriptor of a Fieldref, a Methodref or an InterfaceMethodref."""
         owner, pair = struct.unpack(">HH", self.pool[number][1])
         name, kind = struct.unpack(">HH", self.pool[pair][1])
         return self.class_name(owner), self.text(name), self.text(kind)
@@ -150,6 +176,7 @@ class World:
         self.above = {name: above for name, *above in PLATFORM}
         self.above |= {file.name: [file.parent, *file.interfaces] for file in self.given}
         self.universe = self.input_types()
+        self.literals = sorted(set().union(*(file.literals() for file in self.given)))
 
     def chain(self, name):
         """The class and those above it, the lowest first."""
@@ -160,6 +187,12 @@ class World:
 
     def supertypes(self, name):
         return {name}.union(*(self.supertypes(above) for above in self.above.get(name, [])))
+
+    def interfaces(self, name):
+        """The interfaces above a class, those of the lowest class first."""
+        for low in self.chain(name):
+            for above in self.above.get(low, [])[1:]:
+                yield from (above, *self.interfaces(above))
 
     def slots(self, name):
         """The fields of an object that have slots: class, name and descriptor, those of the highest class first."""
@@ -176,6 +209,28 @@ class World:
             if (name, kind) in [(field.name, field.kind) for field in fields]:
                 return above, name, kind
         return None
+
+    def declared(self, owner, name, kind):
+        """The method of that name and type that the class declares, or None."""
+        if owner in self.files:
+            return next((found for found in self.files[owner].methods if (found.name, found.kind) == (name, kind)), None)
+        callable_here = {OBJECT: [("<init>", "()V"), ("equals", "(Ljava/lang/Object;)Z")]}.get(owner, [])
+        if THROWABLE in self.chain(owner):
+            callable_here = [("<init>", "()V"), ("<init>", "(Ljava/lang/String;)V")]
+        return PlatformMethod(name) if (name, kind) in callable_here else None
+
+    def find_method(self, owner, name, kind):
+        """The method that a Methodref names, or None: of the class, of those above it, or of the interfaces above it."""
+        owner = OBJECT if owner.startswith("[") else owner
+        by_classes = [self.declared(above, name, kind) for above in self.chain(owner)]
+        by_interfaces = [self.declared(above, name, kind) for above in self.interfaces(owner)]
+        return next(filter(None, by_classes + [found for found in by_interfaces if found and found.is_selected]), None)
+
+    def select(self, exact, name, kind):
+        """The method that is selected for an object of that exact type, or None."""
+        chain = self.chain(OBJECT if exact.startswith("[") else exact)
+        found = [self.declared(above, name, kind) for above in chain]
+        return next((method for method in found if method and method.is_selected), None)
 
     def is_told_by_kind(self, owner, name):
         """Whether the class declares several fields of the name."""

@@ -22,7 +22,7 @@ import sys
 import tempfile
 from pathlib import Path
 
-from classes import ClassFile
+from java_runs import as_met, compile_harness, run, run_tests
 from methods import NotExplored
 from model import explored
 from rows import first_difference, is_judged, judge, rows_of
@@ -32,7 +32,6 @@ HERE = Path(__file__).resolve().parent
 ROOT = HERE.parent.parent
 CRATE = ROOT / "crates" / "kiasan_rows"
 DATA = CRATE / "data"
-WRITTEN = HERE.parent / "replay" / "Written.java"
 SOURCES = ("Search.java", "Queue.java", "Types.java")
 ASSEMBLED = {"Node.asm": "worked_node.class", "A.asm": "kept.class", "Odd.asm": "Odd.class", "Other.asm": "Other.class"}
 # samples of so many blocks
@@ -46,16 +45,10 @@ TESTS = {
     "Node.class": "nodes.tests",
     "Odd.class Other.class": "odd_heaps.tests",
 }
-# what the assembler writes has no stack maps
-UNVERIFIED = ["-XX:+UnlockDiagnosticVMOptions", "-XX:-BytecodeVerificationRemote"]
 
 sys.path.insert(0, str(HERE.parent / "assemble"))
 from assembler import assemble  # noqa: E402
 from sample import sample_text  # noqa: E402
-
-
-def run(*words, **options):
-    return subprocess.run([str(word) for word in words], check=True, **options)
 
 
 def write_class_files():
@@ -106,24 +99,6 @@ def files_of(words):
     return re.sub(r"^\w+ (--\S+ \S+ )*", "", words)
 
 
-def run_tests(harness, files, tests):
-    """The tests, each a list of lines, with the ends that a Java virtual machine gives them, as one text."""
-    with tempfile.TemporaryDirectory() as folder:
-        for name in files:
-            content = (DATA / name).read_bytes()
-            (Path(folder) / f"{ClassFile(content).name}.class").write_bytes(content)
-        kept = re.compile("(test|bounds|arg|in) |end$")
-        fronts = [line for test in tests for line in test if kept.match(line)]
-        (Path(folder) / "fronts").write_text("".join(f"{line}\n" for line in fronts))
-        # a class that a row does not give is there for the virtual machine
-        words = ["java", *UNVERIFIED, "-cp", harness, WRITTEN.stem, Path(folder) / "fronts", folder, DATA]
-        return run(*words, stdout=subprocess.PIPE).stdout.decode()
-
-
-def compile_harness(folder):
-    run("javac", "-nowarn", "-d", folder, WRITTEN, stderr=subprocess.DEVNULL)
-
-
 def judge_tests(tests, harness):
     """Runs the tests of all rows, those of the same class files together, and writes those that are replayed."""
     for files in sorted({files_of(words) for words in tests}):
@@ -131,7 +106,7 @@ def judge_tests(tests, harness):
         able = [test for row in rows.values() for test in row if not any(line.startswith("illtyped ") for line in test)]
         if not able:
             continue
-        told, stated = run_tests(harness, files.split(" "), able), text_of(able)
+        told, stated = run_tests(harness, DATA, files.split(" "), able), text_of(map(as_met, able))
         assert told == stated, f"{files}: {first_difference(told.splitlines(), stated.splitlines())}"
         print(f"{len(able)} ends of runs are those of a Java virtual machine: {files}")
         if files in TESTS:

@@ -9,6 +9,7 @@ from dataclasses import dataclass
 from pathlib import Path
 
 from classes import is_reference
+from texts import descriptor_text, escaped
 
 sys.path.insert(0, str(Path(__file__).resolve().parent.parent / "assemble"))
 from assembler import OPCODES, WIDE  # noqa: E402
@@ -21,17 +22,20 @@ UNARY = {"ineg": "neg", "i2b": "byte", "i2c": "char", "i2s": "short"}
 # how many values are taken, and which of them are put back, the top one first; the top one is 0
 MOVES = {"pop": (1, []), "pop2": (2, []), "dup": (1, [0, 0]), "dup_x1": (2, [0, 1, 0]), "dup_x2": (3, [0, 1, 2, 0]),
          "dup2": (2, [0, 1, 0, 1]), "dup2_x1": (3, [0, 1, 2, 0, 1]), "dup2_x2": (4, [0, 1, 2, 3, 0, 1]), "swap": (2, [1, 0])}
+PUSHES = ("aconst_null", "iconst", "bipush", "sipush", "ldc", "ldc_w", "iload", "aload")
 # the comparison of a branch, whether its sides are turned, and which truth it has where the branch is taken
 BRANCHES = {"eq": ("eq", False, True), "ne": ("eq", False, False), "lt": ("lt", False, True), "ge": ("lt", False, False),
             "gt": ("lt", True, True), "le": ("lt", True, False)}
-# what a method may have that is explored; a short form goes by the name of its long one
+# what a method may have that the program explores; a short form goes by the name of its long one
 EXPLORED = {"nop", "aconst_null", "iconst", "bipush", "sipush", "ldc", "ldc_w", "iload", "istore", "iinc", "aload", "astore",
             "goto", "goto_w", "tableswitch", "lookupswitch", "ireturn", "areturn", "return", "getfield", "putfield", "ifnull",
             "ifnonnull", "if_acmpeq", "if_acmpne", *BINARY, *UNARY, *MOVES}
 EXPLORED |= {f"if{pair}{name}" for pair in ("", "_icmp") for name in BRANCHES}
 # the operand of an instruction, and its length
 OPERANDS = {"iload": ("B", 2), "aload": ("B", 2), "istore": ("B", 2), "astore": ("B", 2), "ldc": ("B", 2), "bipush": ("b", 2),
-            "sipush": ("h", 3), "ldc_w": ("H", 3), "getfield": ("H", 3), "putfield": ("H", 3), "iinc": ("Bb", 3)}
+            "sipush": ("h", 3), "ldc_w": ("H", 3), "getfield": ("H", 3), "putfield": ("H", 3), "iinc": ("Bb", 3),
+            "new": ("H", 3), "invokevirtual": ("H", 3), "invokespecial": ("H", 3), "invokestatic": ("H", 3),
+            "invokeinterface": ("H", 5), "newarray": ("B", 2), "anewarray": ("H", 3), "checkcast": ("H", 3), "instanceof": ("H", 3)}
 
 
 class NotExplored(Exception):
@@ -49,35 +53,53 @@ class Instruction:
 
 
 class Method:
-    """The method that a target names: its file, its parameters with the receiver's type, its result, and its code."""
+    """A method with code: its file, its parameters with the receiver's type, its result, and its instructions by their
+    offsets."""
 
-    def __init__(self, world, target):
-        self.target = target
-        owner, name, parameters, self.result = re.fullmatch(r"(.*)\.(.*?)\((.*)\)(.*)", plain(target)).groups()
-        self.file = world.files[owner]
-        kind = f"({parameters}){self.result}"
-        member = next(found for found in self.file.methods if (found.name, found.kind) == (name, kind))
-        self.is_static, self.code = member.is_static, member.code
-        self.parameters = [] if self.is_static else [f"L{owner};"]
-        self.parameters += re.findall(r"\[*(?:L[^;]*;|[A-Z])", parameters)
-        self.instructions = self.explored_code()
+    def __init__(self, member):
+        self.file, self.is_static, self.code = member.file, member.is_static, member.code
+        self.parameters, self.result = types_of(member.kind)
+        if not self.is_static:
+            self.parameters.insert(0, f"L{self.file.name};")
+        self.target = f"{escaped(self.file.name)}.{escaped(member.name)}{descriptor_text(member.kind)}"
+        self.instructions = instructions_of(self.code.bytes)
 
-    def explored_code(self):
-        """The instructions by their offsets."""
-        if not self.code or self.code.handlers:
-            raise NotExplored("it has handlers, or no code")
-        for kind in self.parameters + [self.result]:
-            if kind not in ("I", "Z", "V") and not is_reference(kind):
-                raise NotExplored(kind)
-        found, at = {}, 0
-        while at < len(self.code.bytes):
-            found[at] = instruction = decoded(self.code.bytes, at)
-            at = instruction.next
-            if instruction.name not in EXPLORED:
-                raise NotExplored(instruction.name)
-            if instruction.name in ("ldc", "ldc_w") and self.file.constant(instruction.words[0]) is None:
-                raise NotExplored("a constant that is no int")
-        return found
+
+def types_of(kind):
+    """The parameters and the result of a method's descriptor."""
+    parameters, result = kind[1:].split(")")
+    return re.findall(r"\[*(?:L[^;]*;|[A-Z])", parameters), result
+
+
+def method_of(world, target):
+    """The method that a target names."""
+    owner, name, kind = re.fullmatch(r"(.*)\.(.*?)(\(.*)", plain(target)).groups()
+    member = world.declared(owner, name, kind)
+    if not member.code:
+        raise NotExplored("it has no code")
+    return Method(member)
+
+
+def check_is_explored(method):
+    """Fails where the program does not explore the method yet."""
+    if method.code.handlers:
+        raise NotExplored("it has handlers")
+    for kind in method.parameters + [method.result]:
+        if kind not in ("I", "Z", "V") and not is_reference(kind):
+            raise NotExplored(kind)
+    for instruction in method.instructions.values():
+        if instruction.name not in EXPLORED:
+            raise NotExplored(instruction.name)
+        if instruction.name in ("ldc", "ldc_w") and method.file.constant(instruction.words[0]) is None:
+            raise NotExplored("a constant that is no int")
+
+
+def instructions_of(code):
+    found, at = {}, 0
+    while at < len(code):
+        found[at] = decoded(code, at)
+        at = found[at].next
+    return found
 
 
 def plain(text):
@@ -91,6 +113,8 @@ def decoded(code, at):
     def read(form, behind=1):
         return struct.unpack_from(">" + form, code, at + behind)
 
+    if code[at] not in NAMES and code[at] != WIDE:
+        raise NotExplored(f"opcode {code[at]:02x}")
     name = NAMES.get(code[at])
     if code[at] == WIDE:
         name = NAMES.get(code[at + 1])

@@ -2,63 +2,39 @@
 
 It is written after what docs/USING.md and docs/PICTURES.md say, after the instructions of The Java Virtual Machine
 Specification, Java SE 8 Edition, section 6.5, and after the choices of Khurshid, Păsăreanu and Visser (TACAS 2003), and not
-after the crates. It reads class files itself.
-
-A value is a tuple: ("t", a term), ("null",), ("o", an object of the picture) or ("n", an object that the run has made). A
-slot is ("a", an argument), or an object of the picture and the number of its field.
+after the crates. It reads class files itself. What values and slots are says states.py.
 """
 
 import re
 import sys
-from dataclasses import dataclass, field, replace
+from dataclasses import replace
 from itertools import takewhile
 from pathlib import Path
 
+from arrays import ARRAYS, Arrays
+from calls import CALLS, Calls
 from classes import World, is_reference
-from methods import BINARY, BRANCHES, MOVES, UNARY, Method, NotExplored
+from methods import BINARY, BRANCHES, MOVES, PUSHES, UNARY, NotExplored, check_is_explored, method_of
+from states import Frame, IllTyped, State, changed, frame_of
 from terms import NotTold, Pool, computed, solved
 from texts import NULL, Leaf
+from throws import Throws
 
 sys.setrecursionlimit(100_000)
 
 DEFAULTS = {"k": 3, "array": 3, "alloc": 16, "loops": 10, "depth": 16, "steps": 2000, "paths": 1000, "budget": 2000}
 
 
-class IllTyped(Exception):
-    """The instruction may not be carried out."""
-
-
-@dataclass(frozen=True)
-class State:
-    """What a run over an unknown input has met. The stack has its top first. A cell of an object of the picture is None, or a
-    value behind "read" or "written"."""
-
-    args: tuple = ()
-    kinds: tuple = ()
-    seen: tuple = ()
-    objects: tuple = ()
-    cells: tuple = ()
-    made: tuple = ()
-    when: tuple = ()
-    at: int = 0
-    locals: tuple = None
-    stack: tuple = ()
-    transfers: int = 0
-    carried: int = 0
-    values: dict = field(default_factory=dict)
-
-    def with_cell(self, number, place, cell):
-        cells = self.cells[number]
-        changed = cells[:place] + (cell,) + cells[place + 1 :]
-        return replace(self, cells=self.cells[:number] + (changed,) + self.cells[number + 1 :])
-
-
-class Explorer:
+class Explorer(Calls, Arrays, Throws):
     """The choices and the steps of the runs of a method."""
 
     def __init__(self, world, target, bounds=DEFAULTS):
-        self.world, self.method, self.bounds = world, Method(world, target), DEFAULTS | bounds
-        self.pool, self.instructions_taken = Pool(), 0
+        self.world, self.method, self.bounds = world, method_of(world, target), DEFAULTS | bounds
+        self.pool, self.instructions_taken, self.methods = Pool(), 0, {}
+
+    def start(self):
+        """The state before the arguments are read."""
+        return State(Frame(self.method))
 
     # -- what is asked next
 
@@ -67,23 +43,23 @@ class Explorer:
         if len(state.args) < len(self.method.parameters):
             return ("a", len(state.args)), self.method.parameters[len(state.args)]
         found = self.next_of(state)
-        if found and found.name == "getfield" and state.stack and state.stack[0][0] == "o":
-            named, (_, number) = self.field_named(found), state.stack[0]
-            place = self.place(state, number, named)
-            if place is not None and state.cells[number][place] is None:
-                return (number, place), named[2]
-        return None
+        if found and found.name == "getfield" and state.frame.stack and state.frame.stack[0][0] == "o":
+            named, owner = self.field_named(state, found), state.frame.stack[0]
+            place = self.place(state, owner, named)
+            if place is not None and state.cells[owner[1]][place] is None:
+                return (owner[1], place), named[2]
+        return self.unread_element(state)
 
     def next_of(self, state):
         """The instruction that is taken up, unless the run is past its bound or off its code."""
-        return self.method.instructions.get(state.at) if state.carried < self.bounds["steps"] else None
+        return state.frame.method.instructions.get(state.frame.at) if state.carried < self.bounds["steps"] else None
 
-    def field_named(self, instruction):
-        return self.world.find_field(*self.method.file.field_named(instruction.words[0]))
+    def field_named(self, state, instruction):
+        return self.world.find_field(*state.frame.method.file.member_named(instruction.words[0]))
 
-    def place(self, state, number, named):
-        """The number of the field among those of an object of the picture, or None."""
-        slots = self.world.slots(state.objects[number][0])
+    def place(self, state, owner, named):
+        """The number of the field among those of an object, or None."""
+        slots = self.world.slots(self.exact_type(state, owner))
         return slots.index(named) if named in slots else None
 
     def alternatives(self, state):
@@ -92,7 +68,7 @@ class Explorer:
         if asked:
             slot, kind = asked
             return [(way, []) for way in (self.references(state, slot, kind) if is_reference(kind) else [("only",)])]
-        ways = self.compared(state)
+        ways = self.array_choices(state) or self.compared(state)
         return [(way, terms) for way, terms in ways if all(self.truth(state, *term[:3]) in (None, term[3]) for term in terms)]
 
     def references(self, state, slot, kind):
@@ -115,7 +91,7 @@ class Explorer:
         found = self.next_of(state)
         if not found:
             return only
-        top = [term for _, term in takewhile(lambda value: value[0] == "t", state.stack[:2])]
+        top = [term for _, term in takewhile(lambda value: value[0] == "t", state.frame.stack[:2])]
         branch = re.match(r"if(_icmp)?(eq|ne|lt|ge|gt|le)$", found.name)
         if branch and len(top) >= (2 if branch[1] else 1):
             left, right = (top[1], top[0]) if branch[1] else (top[0], ("int", 0))
@@ -160,14 +136,26 @@ class Explorer:
                 return ("asks",), state
         elif state.carried >= self.bounds["steps"]:
             return ("cut", "steps"), state
-        if state.locals is None:
-            state = replace(state, locals=state.args + (None,) * (self.method.code.locals - len(state.args)))
+        if state.frame.locals is None:
+            state = replace(state, frame=frame_of(self.method, state.args))
         for condition in conditions:
             state = self.also(state, *condition)
+        if way[0] == "index":
+            state, is_asked = self.with_index(state, way[1])
+            if is_asked:
+                return ("asks",), state
         try:
             return self.carried_out(state, way)
         except IllTyped:
-            return ("illtyped", state.at), state
+            return ("illtyped", state.frame.method.target, str(state.frame.at)), state
+
+    def with_index(self, state, place):
+        """The state in which an index was chosen, and whether it is asked next which reference is there. An int is read at once."""
+        state = replace(state, chosen=place)
+        asked = self.unread_element(state)
+        if not asked or is_reference(asked[1]):
+            return state, bool(asked)
+        return self.answered(state, *asked, ("only",)), False
 
     def answered(self, state, slot, kind, way):
         """The state in which the slot was read so."""
@@ -188,26 +176,21 @@ class Explorer:
         return replace(state, args=state.args + (value,)) if slot[0] == "a" else state.with_cell(*slot, ("read", value))
 
     def carried_out(self, state, way):
-        found = self.method.instructions.get(state.at)
+        found, stack = state.frame.method.instructions.get(state.frame.at), state.frame.stack
         if not found:
             raise IllTyped
         self.instructions_taken += 1
         name, words = found.name, found.words
         if name in ("nop", "goto", "goto_w"):
-            return self.goes(state, state.stack, words[0] if words else None)
-        if name in ("iconst", "bipush", "sipush", "ldc", "ldc_w"):
-            number = self.method.file.constant(words[0]) if name.startswith("ldc") else words[0]
-            return self.goes(state, (("t", self.pool.number(number)), *state.stack))
-        if name == "aconst_null":
-            return self.goes(state, (NULL, *state.stack))
-        if name in ("iload", "aload"):
-            return self.goes(state, (self.local(state, words[0], name[0]), *state.stack))
+            return self.goes(state, stack, words[0] if words else None)
+        if name in PUSHES:
+            return self.goes(state, (self.pushed(state, name, words), *stack))
         if name in ("istore", "astore"):
             (value,), rest = self.popped(state, name[0])
             return self.stored(state, words[0], value, rest)
         if name == "iinc":
             _, term = self.local(state, words[0], "i")
-            return self.stored(state, words[0], ("t", self.pool.made("add", term, self.pool.number(words[1]))), state.stack)
+            return self.stored(state, words[0], ("t", self.pool.made("add", term, self.pool.number(words[1]))), stack)
         if name in MOVES:
             depth, picks = MOVES[name]
             top, rest = self.popped(state, "?" * depth)
@@ -215,39 +198,63 @@ class Explorer:
         if name in UNARY or name in BINARY:
             return self.operated(state, name, way)
         if name in ("getfield", "putfield"):
-            return self.field_accessed(state, name, self.field_named(found))
+            return self.field_accessed(state, name, self.field_named(state, found))
+        if name in ARRAYS:
+            return self.array_step(state, name, words, way)
+        return self.called_or_branched(state, name, words, way)
+
+    def called_or_branched(self, state, name, words, way):
+        file = state.frame.method.file
+        if name == "new":
+            return self.object_made(state, file.class_name(words[0]))
+        if name in ("checkcast", "instanceof"):
+            return self.type_tested(state, name, words)
+        if name == "athrow":
+            return self.athrow(state)
+        if name in CALLS:
+            return self.called(state, name, file.member_named(words[0]))
         if name.endswith("return"):
             return self.returned(state, name)
         return self.branched(state, name, words, way)
 
+    def pushed(self, state, name, words):
+        """A constant, a literal, null, or a local."""
+        if name == "aconst_null":
+            return NULL
+        if name in ("iload", "aload"):
+            return self.local(state, words[0], name[0])
+        number = state.frame.method.file.constant(words[0]) if name.startswith("ldc") else words[0]
+        return self.literal(state, words[0]) if number is None else ("t", self.pool.number(number))
+
     def popped(self, state, kinds):
         """The values on the top, the top one first, and those below. Of each the kind is asked: an int, a reference, or any."""
-        top, rest = state.stack[: len(kinds)], state.stack[len(kinds) :]
+        top, rest = state.frame.stack[: len(kinds)], state.frame.stack[len(kinds) :]
         if len(top) < len(kinds) or any(kind != "?" and (kind == "i") != (value[0] == "t") for kind, value in zip(kinds, top)):
             raise IllTyped
         return top, rest
 
     def local(self, state, number, kind):
-        value = state.locals[number] if number < self.method.code.locals else None
+        value = state.frame.locals[number] if number < state.frame.method.code.locals else None
         if value is None or (kind == "i") != (value[0] == "t"):
             raise IllTyped
         return value
 
     def stored(self, state, number, value, stack):
-        if number >= self.method.code.locals:
+        if number >= state.frame.method.code.locals:
             raise IllTyped
         told, after = self.goes(state, stack)
-        return told, replace(after, locals=after.locals[:number] + (value,) + after.locals[number + 1 :])
+        return told, after.with_frame(locals=changed(after.frame.locals, number, value))
 
     def goes(self, state, stack, to=None):
-        if len(stack) > self.method.code.stack:
+        frame = state.frame
+        if len(stack) > frame.method.code.stack:
             raise IllTyped
-        is_back = to is not None and to <= state.at
-        if is_back and state.transfers >= self.bounds["loops"]:
+        is_back = to is not None and to <= frame.at
+        if is_back and frame.transfers >= self.bounds["loops"]:
             return ("cut", "loops"), state
-        at = self.method.instructions[state.at].next if to is None else to
-        transfers, carried = state.transfers + is_back, state.carried + 1
-        return ("goes",), replace(state, at=at, stack=tuple(stack), transfers=transfers, carried=carried)
+        at = frame.method.instructions[frame.at].next if to is None else to
+        after = state.with_frame(at=at, stack=tuple(stack), transfers=frame.transfers + is_back)
+        return ("goes",), replace(after, carried=state.carried + 1, chosen=None)
 
     def operated(self, state, name, way):
         if name in UNARY:
@@ -258,35 +265,31 @@ class Explorer:
             return self.throws(state, "java/lang/ArithmeticException")
         return self.goes(state, (("t", self.pool.made(BINARY[name], left, right)), *rest))
 
-    def throws(self, state, name):
-        """The run ends by an exception that it makes, whose class has no slots."""
-        self.pool.number(0)
-        return ("throws", ("n", len(state.made))), replace(state, made=state.made + ((name, ()),))
-
     def field_accessed(self, state, name, named):
         kind = "r" if is_reference(named[2]) else "i"
         (*values, owner), rest = self.popped(state, "r" if name == "getfield" else kind + "r")
         if owner == NULL:
             return self.throws(state, "java/lang/NullPointerException")
-        place = self.place(state, owner[1], named)
+        place = self.place(state, owner, named)
         if place is None:
             raise IllTyped
         if name == "getfield":
-            return self.goes(state, (state.cells[owner[1]][place][1], *rest))
+            return self.goes(state, (self.held(state, owner, place), *rest))
         told, after = self.goes(state, rest)
-        return told, after.with_cell(owner[1], place, ("written", self.kept(values[0], named[2])))
+        return told, self.written(after, owner, place, self.kept(values[0], named[2]))
+
+    def held(self, state, owner, place):
+        """What a slot of an object holds, which is read already."""
+        kind, number = owner
+        return state.made[number][1][place] if kind == "n" else state.cells[number][place][1]
+
+    def written(self, state, owner, place, value):
+        kind, number = owner
+        return state.with_made_value(number, place, value) if kind == "n" else state.with_cell(number, place, ("written", value))
 
     def kept(self, value, kind):
         """What is kept of a value where that type is declared."""
         return ("t", self.pool.made("and", value[1], self.pool.number(1))) if kind == "Z" else value
-
-    def returned(self, state, name):
-        result = self.method.result
-        kind = {"ireturn": "i", "areturn": "r", "return": ""}[name]
-        (*values,), _ = self.popped(state, kind)
-        if kind != ("" if result == "V" else "r" if is_reference(result) else "i"):
-            raise IllTyped
-        return ("returns", *(self.kept(value, result) for value in values)), state
 
     def branched(self, state, name, words, way):
         if name.endswith("switch"):
@@ -306,7 +309,7 @@ class Explorer:
     def explored(self):
         """The paths, in the order of their decisions."""
         self.leaves = []
-        self.walk(State(), ())
+        self.walk(self.start(), ())
         return self.leaves
 
     def walk(self, state, decisions):
@@ -354,4 +357,5 @@ def explored(folder, words):
         raise NotExplored(init)
     world = World([(Path(folder) / name).read_bytes() for name in words[at:]])
     explorer = Explorer(world, target, {name: int(value) for name, value in options.items()})
+    check_is_explored(explorer.method)
     return explorer, explorer.explored()

@@ -20,7 +20,8 @@ def computed(op, a, b=None):
         "rem": lambda: a - b * quotient, "shl": lambda: a << (b & 31), "shr": lambda: a >> (b & 31),
         "ushr": lambda: (a % 2**32) >> (b & 31), "and": lambda: a & b, "or": lambda: a | b, "xor": lambda: a ^ b,
         "neg": lambda: -a, "byte": lambda: (a + 128) % 256 - 128, "char": lambda: a % 65536,
-        "short": lambda: (a + 32768) % 65536 - 32768, "eq": lambda: int(a == b), "lt": lambda: int(a < b),
+        "short": lambda: (a + 32768) % 65536 - 32768, "eq": lambda: int(a == b),
+        "lt": lambda: int(a < b), "ult": lambda: int(a % 2**32 < b % 2**32),
     }[op]())
 
 
@@ -133,7 +134,11 @@ class Facts:
         op, left, right = self.pool.nodes[term]
         (a, p), (b, q) = self.sum_of(left), self.sum_of(right)
         below, above = (a, b, q - p - 1), (b, a, p - q - 1)
-        if op == "lt":
+        if op == "ult":
+            # below a constant that is no less than 0: not below 0, and below the constant
+            assert b is ZERO and q >= 0
+            self.facts.append([[(ZERO, a, p), below]] if truth else [[(a, ZERO, -p - 1)], [(ZERO, a, p - q)]])
+        elif op == "lt":
             self.facts.append([[below]] if truth else [[(b, a, p - q)]])
         else:
             self.facts.append([[(a, b, q - p), (b, a, p - q)]] if truth else [[below], [above]])

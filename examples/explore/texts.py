@@ -57,7 +57,8 @@ class Leaf:
         """The terms of the text, with their numbers."""
         roots = [term for term, _ in self.state.when]
         if self.kind == "ended":
-            values = [*self.outcome[1:], *(value for *_, value in self.written())]
+            made = [value for _, values in self.state.made for value in values]
+            values = [*self.outcome[1:], *(value for *_, value in self.written()), *made]
             roots += [value[1] for value in values if isinstance(value, tuple) and value[0] == "t"]
         return self.explorer.pool.walked(roots)
 
@@ -79,7 +80,7 @@ class Leaf:
         if self.kind == "ended":
             written = [((number, place), value) for number, place, value in self.written()]
             lines += [f"set {self.slot_text(slot)} {self.out_text(value, order)}" for slot, value in written]
-            lines += [f"new n{number} {type_text(name)}" for number, (name, _) in enumerate(state.made)]
+            lines += self.made_lines(lambda value: self.out_text(value, order))
         return lines + self.input_lines(found)
 
     def decisions_text(self):
@@ -96,8 +97,10 @@ class Leaf:
     def slot_text(self, slot):
         if slot[0] == "a":
             return f"a{slot[1]}"
-        world = self.explorer.world
-        owner, name, kind = world.slots(self.state.objects[slot[0]][0])[slot[1]]
+        world, exact = self.explorer.world, self.state.objects[slot[0]][0]
+        if exact.startswith("["):
+            return f"o{slot[0]}[{slot[1]}]"
+        owner, name, kind = world.slots(exact)[slot[1]]
         told = f":{descriptor_text(kind)}" if world.is_told_by_kind(owner, name) else ""
         return f"o{slot[0]}.{escaped(owner)}.{escaped(name)}{told}"
 
@@ -109,10 +112,11 @@ class Leaf:
         return self.operand(value[1], order) if value[0] == "t" else "null" if value == NULL else f"{value[0]}{value[1]}"
 
     def ending_text(self, told):
-        word, *rest = self.outcome
-        if word == "illtyped":
-            return f"illtyped {self.explorer.method.target} {rest[0]}"
-        return " ".join([word, *(part if isinstance(part, str) else told(part) for part in rest)])
+        return " ".join(part if isinstance(part, str) else told(part) for part in self.outcome)
+
+    def made_lines(self, told):
+        for number, (name, values) in enumerate(self.state.made):
+            yield " ".join([f"new n{number} {type_text(name)}", *map(told, values)])
 
     # -- the input that the path carries, and its test
 
@@ -167,7 +171,7 @@ class Leaf:
         names = " ".join(f"{name} {bounds[name]}" for name in ("alloc", "loops", "depth", "steps"))
         lines = [f"test {explorer.method.target}", f"bounds {names}", *self.input_lines(values), self.ending_text(told)]
         lines += [" ".join([f"out i{number}", *slots]) for number, (_, slots) in enumerate(objects)]
-        return lines + [f"new n{number} {type_text(name)}" for number, (name, _) in enumerate(self.state.made)] + ["end"]
+        return [*lines, *self.made_lines(told), "end"]
 
     # -- the diagram
 
@@ -178,8 +182,7 @@ class Leaf:
         lines = [f"diagram {self.decisions_text()}", "before", *self.drawn(before)]
         if self.kind == "ended":
             after = before | {(number, place): self.out_text(value, order) for number, place, value in self.written()}
-            made = [f"n{number} {type_text(name)}" for number, (name, _) in enumerate(self.state.made)]
-            lines += ["after", *self.drawn(after), *made]
+            lines += ["after", *self.drawn(after), *self.drawn_made(order)]
         return lines + [self.leaf_line(order)]
 
     def drawn(self, held):
@@ -187,6 +190,12 @@ class Leaf:
         for number, (name, length, _) in enumerate(self.state.objects):
             cells = [f"{slot}={held.get((number, place), '?')}" for place, slot in enumerate(self.slot_names(name, length))]
             yield " ".join([f"o{number} {type_text(name)}", *cells])
+
+    def drawn_made(self, order):
+        for number, (name, values) in enumerate(self.state.made):
+            names = self.slot_names(name, len(values) if name.startswith("[") else None)
+            cells = [f"{slot}={self.out_text(value, order)}" for slot, value in zip(names, values, strict=True)]
+            yield " ".join([f"n{number} {type_text(name)}", *cells])
 
     def slot_names(self, name, length):
         """The names of fields, or the indices of an array whose length is known."""

@@ -1,3 +1,5 @@
+import java.io.IOException;
+import java.io.UncheckedIOException;
 import java.lang.reflect.Array;
 import java.lang.reflect.Field;
 import java.lang.reflect.InvocationTargetException;
@@ -20,9 +22,12 @@ import sun.misc.Unsafe;
  * <p>The file that is read has tests without the lines behind the input. Each method is run over its input, and how it ends,
  * what the input objects then hold and what the run has made is written behind it. New objects are numbered as they are met from
  * the ending and then from the input, which is the order of their making where a run makes one. Those that nothing leads to at the
- * end are not met, so no test here may make any.
+ * end are not met. The property {@code literals} names a file of the texts of all string literals, one a line, in the order of
+ * their numbers.
  */
 class Written {
+    private static final List<String> LITERALS = literals();
+
     private final ClassLoader classes;
     private final List<Object> inputs = new ArrayList<>();
     private final List<Object> made = new ArrayList<>();
@@ -46,6 +51,15 @@ class Written {
             } else {
                 test.add(line);
             }
+        }
+    }
+
+    private static List<String> literals() {
+        String file = System.getProperty("literals");
+        try {
+            return file == null ? List.of() : Files.readAllLines(Path.of(file));
+        } catch (IOException e) {
+            throw new UncheckedIOException(e);
         }
     }
 
@@ -159,6 +173,9 @@ class Written {
         }
         if (value instanceof Boolean truth) {
             return truth ? "1" : "0";
+        }
+        if (value instanceof String literal && literal == literal.intern()) {
+            return "s" + LITERALS.indexOf(literal);
         }
         int input = place(inputs, value);
         if (input >= 0) {

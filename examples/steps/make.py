@@ -1,16 +1,22 @@
 #!/usr/bin/env python3
 """Writes the class files of crates/step_rows/data, and what is expected of its table of rows.
 
-The class files are those of Small.java, Cells.java and Odd.text beside this script. What is expected is what the model of examples/explore
-says, which is written after the rules of choices and of the instructions and not after the crates. The steps of `Small.abs`,
-`Small.div` and `Odd.spin` in it were checked by hand as well.
+The class files are those of the sources beside this script. What is expected is what the model of examples/explore says, which is
+written after the rules of choices and of the instructions and not after the crates. The steps of `Small.abs`, `Small.div` and
+`Odd.spin` in it were checked by hand as well. Where a row's run ends, the end is that of a Java virtual machine on an input of the
+row, the values, the exception and the heap, unless the end is ill-typed or stands behind the row, as in `#= returns 1`: then it is
+this project's own and was written by hand.
+
+Each folder here has a table of rows of its own, with its class files' sources, of what the steps do not carry out yet. What is
+expected of it is written beside it.
 
 Usage: examples/steps/make.py
 It needs javac and java of a JDK 17 (examples/machine/Assembler.java uses that JDK's own ASM).
 """
 
-import subprocess
 import sys
+import tempfile
+from dataclasses import dataclass
 from pathlib import Path
 
 HERE = Path(__file__).resolve().parent
@@ -20,12 +26,20 @@ DATA = CRATE / "data"
 ASM = "java.base/jdk.internal.org.objectweb.asm"
 EXPORTS = [word for package in (ASM, f"{ASM}.util") for word in ("--add-exports", f"{package}=ALL-UNNAMED")]
 
-sys.path.insert(0, str(HERE.parent / "explore"))
+sys.path.insert(1, str(HERE.parent / "explore"))
 from classes import World, is_reference  # noqa: E402
-from model import Explorer, State  # noqa: E402
+from java_runs import as_met, compile_harness, run, run_tests, write_class_files  # noqa: E402
+from methods import EXPLORED  # noqa: E402
+from model import Explorer  # noqa: E402
+from terms import NotTold, solved  # noqa: E402
 from texts import NULL, Leaf, type_text  # noqa: E402
 
 REFERENCES = {"aconst_null", "aload", "astore", "if_acmpeq", "if_acmpne", "ifnull", "ifnonnull", "getfield", "putfield", "areturn"}
+INTS = EXPLORED - REFERENCES
+STATED = "#= "
+
+
+# ---- the lines of a row
 
 
 def way_text(way):
@@ -44,16 +58,21 @@ def cell_text(cell):
     return "?" if not cell else f"{'=' if cell[0] == 'written' else ''}{value_text(cell[1])}"
 
 
-def state_lines(state, outcome):
+def state_lines(explorer, state, outcome):
     """What a state over a heap holds: nothing where it is cut."""
     lines = []
     if outcome == "cut":
         return lines
     if outcome == "goes":
-        lines.append(" ".join(["  stack", *map(value_text, state.stack)]))
-        lines.append(" ".join(["  locals", *("-" if value is None else value_text(value) for value in state.locals)]))
+        frame = state.frame
+        if frame.method is not explorer.method:
+            lines.append(f"  in {frame.method.target}")
+        lines.append(" ".join(["  stack", *map(value_text, frame.stack)]))
+        room = frame.locals[: frame.method.code.locals]
+        lines.append(" ".join(["  locals", *("-" if value is None else value_text(value) for value in room)]))
     lines += [" ".join([f"  o{number}", *map(cell_text, cells)]) for number, cells in enumerate(state.cells)]
-    return lines + [f"  n{number} {type_text(name)}" for number, (name, _) in enumerate(state.made)]
+    made = enumerate(state.made)
+    return lines + [" ".join([f"  n{number}", type_text(name), *map(value_text, values)]) for number, (name, values) in made]
 
 
 def node_text(node):
@@ -65,22 +84,23 @@ def node_text(node):
 def is_over_heaps(method):
     """Whether the method is more than one over ints."""
     names = {instruction.name for instruction in method.instructions.values()}
-    kinds = method.parameters + [method.result]
-    return any(is_reference(kind) for kind in kinds) or any(name in REFERENCES for name in names)
+    return any(is_reference(kind) for kind in method.parameters + [method.result]) or not names <= INTS
 
 
 def walk(world, row):
     """What a row comes to: the alternatives of each step, what comes of the one that is taken, and the terms that it makes. Of a
-    method over heaps also what the state holds then."""
+    method over heaps also what the state holds then. Behind the lines the leaf."""
     target, *words = row.split(" ")
     bounds = {key: int(value) for key, value in (word.split("=") for word in words if "=" in word)}
     decisions = [int(word) for word in words if "=" not in word]
-    explorer, state, lines, taken = Explorer(world, target, bounds), State(), [f"> {row}"], 0
+    explorer, lines, taken = Explorer(world, target, bounds), [f"> {row}"], 0
+    state, outcome = explorer.start(), ("open",)
     while True:
         ways = explorer.alternatives(state)
         line = " | ".join(way_text(way) for way, _ in ways)
         if len(ways) != 1 and taken == len(decisions):
             lines.append(line)
+            outcome = ("open",)
             break
         place = 0
         if len(ways) != 1:
@@ -90,25 +110,86 @@ def walk(world, row):
         lines.append(f"{line}: {Leaf(explorer, (), outcome, state).ending_text(value_text)}")
         lines += [f"  t{term} {node_text(node)}" for term, node in enumerate(explorer.pool.nodes) if term >= before]
         if is_over_heaps(explorer.method):
-            lines += state_lines(state, outcome[0])
+            lines += state_lines(explorer, state, outcome[0])
         if outcome[0] not in ("asks", "goes"):
             break
-    return lines + Leaf(explorer, tuple(decisions), ("open",), state).block({})
+    assert taken == len(decisions), f"{row}: {len(decisions)} decisions, of which {taken} are taken"
+    lines += Leaf(explorer, tuple(decisions), ("open",), state).block({})
+    return lines, Leaf(explorer, tuple(decisions), outcome, state)
+
+
+# ---- tables of rows
+
+
+@dataclass
+class Row:
+    """A row with its class files, what it comes to, its leaf, and the end that is stated behind it."""
+
+    words: str
+    files: tuple
+    lines: list
+    leaf: Leaf
+    stated: str
+
+    def end(self):
+        """The end in words, or the bound that cuts the path."""
+        return self.leaf.ending_text(lambda value: self.leaf.out_text(value, self.leaf.order()))
+
+    def test(self):
+        """The test of an input of the row, where a virtual machine is asked how it ends: not where no input is known, since the
+        model tries few values, or none takes these alternatives."""
+        if self.stated:
+            assert self.end() == self.stated, f"{self.words}: {self.end()} and not {self.stated}"
+        if self.stated or self.leaf.kind != "ended" or self.leaf.outcome[0] == "illtyped":
+            return None
+        try:
+            values = solved(self.leaf.explorer.pool, self.leaf.state.when)
+        except NotTold:
+            return None
+        return None if values is None else self.leaf.test(values)
+
+
+def rows_of(table, folder):
+    """The rows of a table, whose class files lie in the folder."""
+    lines, files, world = table.read_text().splitlines(), (), None
+    for line, behind in zip(lines, [*lines[1:], ""]):
+        if line.startswith("files "):
+            files = tuple(line.split(" ")[1:])
+            world = World([(folder / name).read_bytes() for name in files])
+        elif line and not line.startswith("#"):
+            yield Row(line, files, *walk(world, line), behind.removeprefix(STATED) if behind.startswith(STATED) else None)
+
+
+def judge_ends(rows, folder, harness):
+    """Fails unless the ends of the rows are those of a Java virtual machine."""
+    for files in dict.fromkeys(row.files for row in rows):
+        tests = [test for row in rows if row.files == files and (test := row.test())]
+        told = run_tests(harness, folder, files, tests)
+        stated = "".join(f"{line}\n" for test in tests for line in as_met(test))
+        for own, other in zip(stated.split("end\n"), told.split("end\n"), strict=True):
+            assert own == other, f"{files}: a virtual machine says\n{other}and the model\n{own}"
+        count = sum(row.files == files for row in rows)
+        print(f"{len(tests)} ends of {count} rows are those of a Java virtual machine: {' '.join(files)}", flush=True)
+
+
+def write_table(sources, table, folder, expected, harness):
+    write_class_files(sources, folder)
+    for text in sorted(sources.glob("*.text")):
+        run("java", *EXPORTS, HERE.parent / "machine" / "Assembler.java", folder, text)
+    rows = list(rows_of(table, folder))
+    expected.write_text("".join(f"{line}\n" for row in rows for line in row.lines))
+    judge_ends(rows, folder, harness)
 
 
 def main():
     for file in DATA.glob("*.class"):
         file.unlink()
-    javac = ["javac", "-g:none", "-nowarn", "--release", "8", "-d", DATA]
-    subprocess.run([*javac, HERE / "Small.java", HERE / "Cells.java"], check=True, stderr=subprocess.DEVNULL)
-    subprocess.run(["java", *EXPORTS, HERE.parent / "machine" / "Assembler.java", DATA, HERE / "Odd.text"], check=True)
-    world, lines = None, []
-    for row in (DATA / "rows").read_text().splitlines():
-        if row.startswith("files "):
-            world = World([(DATA / name).read_bytes() for name in row.split(" ")[1:]])
-        elif row and not row.startswith("#"):
-            lines += walk(world, row)
-    (CRATE / "stdout").write_text("".join(f"{line}\n" for line in lines))
+    with tempfile.TemporaryDirectory() as harness:
+        compile_harness(harness)
+        write_table(HERE, DATA / "rows", DATA, CRATE / "stdout", harness)
+        for table in sorted(HERE.glob("*/rows")):
+            with tempfile.TemporaryDirectory() as folder:
+                write_table(table.parent, table, Path(folder), table.with_name("stdout"), harness)
 
 
 if __name__ == "__main__":
