@@ -6,7 +6,7 @@ ghost use Rattle.kb_frames.specs.Paths.{path_roots};
 ghost use Rattle.kb_drive.specs.Values.{followed_by_zeros};
 ghost use Rattle.kb_drive.specs.Following.{input_of_piece, path_of_piece};
 ghost use Rattle.kb_frames_laws.specs.Endings.{ended_in};
-ghost use Rattle.kb_frames.specs.Stated.{made_of, writes_of};
+ghost use Rattle.kb_stated.specs.Stated.{made_of, writes_of};
 
 use crate::NoMemory;
 use crate::piece::Piece;
@@ -15,6 +15,7 @@ use kb_heap::{Bound, Input};
 use kb_input::input_of;
 use kb_picture::{Ended, Leaf, Made, Path, SymEnding, Write};
 use kb_rows::{Held, Row};
+use kb_stated::{made, writes};
 use kb_world::World;
 use std::alloc::Global;
 
@@ -52,7 +53,7 @@ fn ended_in(
 ) -> Result<Ended, NoMemory>
     ensures { IfOk result (λ ended. ended ≡ ended_in piece.now.state ending (input_of_piece world.now piece.now)) }
 {
-    let left = left_by(&piece.state)?;
+    let left = left_by(alloc, &piece.state)?;
     let input = input_of_piece(alloc, world, piece)?;
     Ok(Ended {
         ending,
@@ -69,11 +70,11 @@ pub(crate) struct Left {
     made: Row<Made>,
 }
 
-fn left_by(state: &SymState) -> Result<Left, NoMemory>
+fn left_by(alloc: Global, state: &SymState) -> Result<Left, NoMemory>
     ensures { IfOk result (λ left. left ≡ record { writes = writes_of state.now; made = made_of state.now }) }
 {
-    let writes = state.writes()?;
-    let made = state.made()?;
+    let writes = writes(alloc, state)?;
+    let made = made(alloc, state)?;
     Ok(Left { writes, made })
 }
 

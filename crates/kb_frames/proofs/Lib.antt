@@ -1,7 +1,5 @@
 pub mod StartLaws
 pub mod StackLaws
-pub mod NextLaws
-pub mod StatedLaws
 pub mod BeginLaws
 pub mod MakingLaws
 pub mod StateLaws

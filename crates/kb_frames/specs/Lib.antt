@@ -4,7 +4,6 @@ pub mod Truths
 pub mod Cuts
 pub mod Next
 pub mod Bindings
-pub mod Stated
 pub mod States
 pub mod Heaps
 pub mod FirstReads

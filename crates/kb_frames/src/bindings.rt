@@ -1,12 +1,12 @@
 //! Locations that are looked into: which object they are.
 ghost use Rattle.std.specs.Prelude.{◌≡◌, ◌++◌, OnOk};
-ghost use Rattle.kb_picture.specs.Growth.{after_access, with_standing};
+ghost use Rattle.kb_picture.specs.Growth.{after_access};
 ghost use Rattle.kb_picture.specs.declared.choice.Choice.TheVariants.{Fresh};
 ghost use Rattle.kb_frames.specs.FirstReads.{cells_chosen};
 ghost use Rattle.kb_frames.specs.Bindings.{bound, resolved, resolved_loc};
 
 use crate::NoMemory;
-use crate::first_reads::{new_cells, numbered};
+use crate::first_reads::numbered;
 use crate::state::SymState;
 use crate::value::SymValue;
 use kb_names::ExactType;
@@ -32,18 +32,11 @@ impl SymState {
         ensures { OnOk result (self.new ≡ bound world.now number choice.now self.old) }
     {
         match choice {
-            Choice::Alias(object) => self.set_standing(number, Standing::Obj(*object)),
-            Choice::Beyond => self.set_standing(number, Standing::Beyond),
-            Choice::Fresh(kind, length) => self.bind_new(world, number, kind, *length),
-            _ => Ok(()),
+            Choice::Alias(object) => self.picture.set_standing(number, Standing::Obj(*object)),
+            Choice::Beyond => self.picture.set_standing(number, Standing::Beyond),
+            Choice::Fresh(kind, length) => self.bind_new(world, number, kind, *length)?,
+            _ => {}
         }
-    }
-
-    // The location stands so.
-    fn set_standing(&mut self, number: u32, standing: Standing) -> Result<(), NoMemory>
-        ensures { OnOk result (self.new ≡ record self.old { picture = with_standing self.old.picture number standing }) }
-    {
-        self.picture.set_standing(number, standing);
         Ok(())
     }
 
@@ -58,12 +51,12 @@ impl SymState {
     ) -> Result<(), NoMemory>
         ensures { OnOk result (self.new ≡ bound world.now number (Fresh kind.now length) self.old) }
     {
-        let alloc = self.alloc;
         let object = numbered(self.picture.get().objects.as_slice().len())?;
-        let kind_of = kind.copied(alloc)?;
+        let kind_of = kind.copied(self.alloc)?;
         self.picture.add_object_at(number, kind_of, length)?;
-        self.cells.push(new_cells(alloc, world, kind, length)?)?;
-        self.set_standing(number, Standing::Obj(object))
+        self.add_cells(world, kind, length)?;
+        self.picture.set_standing(number, Standing::Obj(object));
+        Ok(())
     }
 }
 

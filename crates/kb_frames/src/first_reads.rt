@@ -1,6 +1,6 @@
 //! Slots that are read for the first time.
 ghost use Rattle.std.specs.Prelude.{◌≡◌, [], ◌∷◌, ◌++◌, replicate, IfOk, OnOk};
-ghost use Rattle.kb_picture.specs.Growth.{after_read, after_int_read};
+ghost use Rattle.kb_picture.specs.Growth.{after_read};
 ghost use Rattle.kb_picture.specs.Laws.{with_seen};
 ghost use Rattle.kb_picture.specs.declared.choice.Choice.TheVariants.{Fresh, Location};
 ghost use Rattle.kb_frames.specs.declared.value.Cell.TheVariants.{Untouched};
@@ -42,7 +42,7 @@ impl SymState {
         ensures { OnOk result (self.new ≡ first_int slot kind self.old) }
     {
         let term = self.pool.variable(kind)?;
-        self.see_variable(slot)?;
+        self.picture.see_variable(slot)?;
         self.keep_found(slot, SymValue::Int(term))
     }
 
@@ -81,13 +81,6 @@ impl SymState {
         self.picture.see(slot, seen)
     }
 
-    // The slot is seen as the next variable.
-    fn see_variable(&mut self, slot: Origin) -> Result<(), NoMemory>
-        ensures { OnOk result (self.new ≡ record self.old { picture = after_int_read self.old.picture slot }) }
-    {
-        self.picture.see_variable(slot)
-    }
-
     // A location is found in the slot.
     #[tactic(auto, unfolding(kb_picture::specs::Growth::after_read))]
     fn find_location(&mut self, slot: Origin) -> Result<(), NoMemory>
@@ -112,15 +105,28 @@ impl SymState {
     ) -> Result<(), NoMemory>
         ensures { OnOk result (self.new ≡ record self.old { picture = after_read self.old.picture slot (Fresh kind.now length); cells = self.old.cells ++ new_cells world.now kind.now length ∷ [] }) }
     {
-        let alloc = self.alloc;
         let number = numbered(self.picture.get().objects.as_slice().len())?;
         self.picture.add_object(PicObject {
-            kind: kind.copied(alloc)?,
+            kind: kind.copied(self.alloc)?,
             length,
             origin: slot,
         })?;
-        self.cells.push(new_cells(alloc, world, kind, length)?)?;
+        self.add_cells(world, kind, length)?;
         self.see(slot, Seen::Obj(number))
+    }
+
+    /// A new object has cells of which none is touched.
+    pub(crate) fn add_cells(
+        &mut self,
+        world: &World,
+        kind: &ExactType,
+        length: Length,
+    ) -> Result<(), NoMemory>
+        ensures { OnOk result (self.new ≡ record self.old { cells = self.old.cells ++ new_cells world.now kind.now length ∷ [] }) }
+    {
+        let cells = new_cells(self.alloc, world, kind, length)?;
+        self.cells.push(cells)?;
+        Ok(())
     }
 
     // The slot keeps what was found in it.
@@ -160,8 +166,8 @@ pub(crate) fn numbered(count: usize) -> Result<u32, NoMemory>
     }
 }
 
-/// The cells of an object that was found.
-pub(crate) fn new_cells(
+// The cells of an object that was found.
+fn new_cells(
     alloc: Global,
     world: &World,
     kind: &ExactType,

@@ -3,7 +3,7 @@ ghost use Rattle.std.specs.Prelude.{◌≡◌, slice_set};
 ghost use Rattle.std.specs.Option.{option_copied};
 ghost use Rattle.kb_frames.specs.Heaps.{exact_type_of, find_cell, made_value, with_cell, wrote, wrote_made};
 
-use crate::state::SymState;
+use crate::state::{SymObject, SymState};
 use crate::value::{Cell, SymValue};
 use kb_names::ExactType;
 use kb_rows::Row;
@@ -26,6 +26,20 @@ impl SymState {
             },
             SymValue::Int(_) | SymValue::Null | SymValue::Literal(_) | SymValue::Loc(_) => None,
         }
+    }
+
+    /// Of each object of the picture what is known of its slots or elements.
+    pub fn cells(&self) -> &[Row<Cell>]
+        ensures { result.now ≡ self.now.cells }
+    {
+        self.cells.as_slice()
+    }
+
+    /// The objects that the run has made, in the order of making.
+    pub fn made_objects(&self) -> &[SymObject]
+        ensures { result.now ≡ self.now.made }
+    {
+        self.made.as_slice()
     }
 
     /// What is known of a slot or an element of an object of the picture, where it has that.

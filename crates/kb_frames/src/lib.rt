@@ -15,13 +15,12 @@ mod making;
 mod next;
 mod path;
 mod state;
-mod stated;
 mod truths;
 mod value;
 
+pub use kb_kinds::{is_int_instruction, is_reference, variable_kind};
 pub use kb_numbered::PathStop;
 pub use laws::{paths_are_well_formed, states_begin, states_bind, values_resolve};
-pub use next::{is_int_instruction, is_reference, variable_kind};
-pub use state::{SymState, start};
+pub use state::{SymObject, SymState, start};
 pub use std::alloc::AllocError as NoMemory;
 pub use value::{Cell, Outcome, SymValue};

@@ -1,27 +1,17 @@
 //! What a state comes to next.
-ghost use Rattle.std.specs.Prelude.{◌≡◌, Some, IfOk, option_map, slice_get};
+ghost use Rattle.std.specs.Prelude.{◌≡◌, IfOk, option_map};
 ghost use Rattle.kb_semantics.specs.Config.{class_number};
-ghost use Rattle.kb_semantics.specs.Inputs.{argument_types};
-ghost use Rattle.kb_picture.specs.Queries.{kind_for};
-ghost use Rattle.kb_picture.specs.WellTyped.{is_reference_type};
-ghost use Rattle.kb_frames.specs.Next.{type_of, kind_of, argument_next, method_now, offset_now, instruction_next, is_int_entry, is_int_instruction, is_int_next, next_is_int};
+ghost use Rattle.kb_frames.specs.Next.{type_of, kind_of, argument_next, method_now, offset_now, instruction_next, is_int_next, next_is_int};
 
 use crate::NoMemory;
 use crate::state::{Stage, SymState};
-use kb_class::{MethodId, MethodInfo, is_static};
-use kb_code::Instr;
+use kb_class::MethodId;
+use kb_kinds::{Argument, argument_at, is_int_instruction, is_reference, variable_kind};
 use kb_lookups::{declaring_class, instruction_at};
 use kb_names::{JType, Name};
 use kb_semantics::World;
 use kb_terms::VarKind;
 use std::alloc::Global;
-
-/// An argument that is to be read.
-#[derive(Clone, Copy)]
-pub(crate) enum Argument<'w> {
-    Receiver,
-    Typed(&'w JType),
-}
 
 impl SymState {
     /// Whether the next step is one of ints: the next argument to be read is no reference, or all are read, and the next
@@ -93,70 +83,5 @@ impl SymState {
             Some(found) => is_int_instruction(world, method, found.instr),
             None => true,
         }
-    }
-}
-
-// The argument of that number: where the method is not static, the first one is the receiver.
-#[tactic(auto, using(crate::proofs::NextLaws::of_static, crate::proofs::NextLaws::receiver_first, crate::proofs::NextLaws::behind_receiver))]
-fn argument_at<'w>(_world: &World, info: &'w MethodInfo, number: usize) -> Option<Argument<'w>>
-    ensures { option_map (type_of _world.now info.now.class.0) result ≡ slice_get (argument_types _world.now info.now) number }
-{
-    let params = info.kind.params.as_slice();
-    if is_static(info.access) {
-        return match params.get(number) {
-            Some(kind) => Some(Argument::Typed(kind)),
-            None => None,
-        };
-    }
-    if number == 0 {
-        return Some(Argument::Receiver);
-    }
-    match params.get(number - 1) {
-        Some(kind) => Some(Argument::Typed(kind)),
-        None => None,
-    }
-}
-
-/// Whether the type is one of references (JVMS 8 section 2.4).
-pub fn is_reference(kind: &JType) -> bool
-    ensures { result ≡ is_reference_type kind.now }
-{
-    matches!(kind, JType::Class(_) | JType::Array(_))
-}
-
-/// The kind of the variable of a slot of the type: a boolean's is 0 or 1, any other is an int of 32 bits.
-pub fn variable_kind(kind: &JType) -> VarKind
-    ensures { result ≡ kind_for (Some kind.now) }
-{
-    match kind {
-        JType::Bool => VarKind::Bool,
-        _ => VarKind::Int,
-    }
-}
-
-/// Whether an instruction of the method is one of those on ints, on locals that are ints and on the stack, a branch on ints, or
-/// a return of an int or of nothing. An ldc is one of them where its constant is an int.
-pub fn is_int_instruction(world: &World, method: MethodId, instr: &Instr) -> bool
-    ensures { result ≡ is_int_instruction world.now method instr.now }
-{
-    match instr {
-        Instr::Ldc(entry) => is_int_entry(world, method, *entry),
-        Instr::Nop | Instr::PushInt(_) | Instr::LoadInt(_) | Instr::StoreInt(_) => true,
-        Instr::Pop | Instr::Pop2 | Instr::Dup | Instr::DupX1 | Instr::DupX2 => true,
-        Instr::Dup2 | Instr::Dup2X1 | Instr::Dup2X2 | Instr::Swap => true,
-        Instr::Int2(_) | Instr::Neg | Instr::Inc(..) | Instr::Narrow(_) => true,
-        Instr::IfInt(..) | Instr::IfPair(..) | Instr::Goto(_) => true,
-        Instr::Table(..) | Instr::Lookup(..) | Instr::ReturnInt | Instr::Return => true,
-        _ => false,
-    }
-}
-
-// Whether the entry of the method's class is an Integer.
-fn is_int_entry(world: &World, method: MethodId, entry: u16) -> bool
-    ensures { result ≡ is_int_entry world.now method entry }
-{
-    match world.find_method(method) {
-        Some(info) => world.find_int(info.class, entry).is_some(),
-        None => false,
     }
 }

@@ -22,9 +22,9 @@ use std::marker::Model;
 
 /// An object that the run has made, with the present values of its slots or elements.
 #[derive(Drop)]
-pub(crate) struct SymObject {
-    pub(crate) kind: ExactType,
-    pub(crate) values: Row<SymValue>,
+pub struct SymObject {
+    pub kind: ExactType,
+    pub values: Row<SymValue>,
 }
 
 impl SymObject {

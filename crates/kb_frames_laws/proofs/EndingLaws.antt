@@ -52,7 +52,7 @@ use Rattle.kb_frames.specs.Bindings.{resolved_loc, standing_value}
 use Rattle.kb_frames.specs.Paths.{path_numbering, path_of, path_roots}
 use Rattle.kb_frames.specs.StandsFor.{HeapStandsFor, IsInstanceOf, made_at, out_of, reading_at, value_of_sym}
 use Rattle.kb_frames.specs.State.{State}
-use Rattle.kb_frames.specs.Stated.{made_of, stated, stated_object, writes_of}
+use Rattle.kb_stated.specs.Stated.{made_of, stated, stated_object, writes_of}
 use Rattle.kb_frames.specs.States.{Each, IsEndedIn, IsOutIn, IsState, IsSymValue}
 use Rattle.kb_frames.proofs.FormedPaths.{roots_are_terms}
 use Rattle.kb_frames_laws.specs.Endings.{EndingsMean, IsEndingIn, HasNoLocBeyond, ended_in}

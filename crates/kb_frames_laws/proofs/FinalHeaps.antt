@@ -27,7 +27,7 @@ use Rattle.kb_frames.specs.declared.value.Cell.TheVariants.{Untouched, Read, Wri
 use Rattle.kb_frames.specs.declared.value.SymValue.{SymValue}
 use Rattle.kb_frames.specs.StandsFor.{HeapStandsFor, IsLike, made_at, present_value, value_of_sym}
 use Rattle.kb_frames.specs.State.{State, cell_at}
-use Rattle.kb_frames.specs.Stated.{stated, writes_of}
+use Rattle.kb_stated.specs.Stated.{stated, writes_of}
 use Rattle.kb_frames.specs.States.{AreCells}
 use Rattle.kb_frames.proofs.ResolveLaws.{resolved_same}
 use Rattle.kb_frames_laws.proofs.HeapWrites.{comes, goes_to, like_both, like_slot, not_written, placed, same_object, slot_of, writes_like, writes_size}

@@ -17,7 +17,7 @@ use Rattle.kb_frames.specs.declared.value.Cell.{Cell}
 use Rattle.kb_frames.specs.declared.value.Cell.TheVariants.{Untouched, Read, Written}
 use Rattle.kb_frames.specs.declared.value.SymValue.{SymValue}
 use Rattle.kb_frames.specs.State.{State, cell_at}
-use Rattle.kb_frames.specs.Stated.{object_writes, slot_in, slot_writes, stated, writes_from, writes_of}
+use Rattle.kb_stated.specs.Stated.{object_writes, slot_in, slot_writes, stated, writes_from, writes_of}
 use Rattle.kb_frames.specs.States.{AreCells, HasCells, IsSymValue}
 
 -- the write of a slot of an object of the exact type

@@ -19,7 +19,7 @@ use Rattle.kb_numbered.specs.Numbered.{numbered_ended}
 use Rattle.kb_frames.specs.Paths.{path_numbering, path_of}
 use Rattle.kb_frames.specs.StandsFor.{HeapStandsFor, IsInstanceOf, reading_at}
 use Rattle.kb_frames.specs.State.{State}
-use Rattle.kb_frames.specs.Stated.{made_of, writes_of}
+use Rattle.kb_stated.specs.Stated.{made_of, writes_of}
 use Rattle.kb_frames.specs.States.{Each, IsLeafIn, IsOutIn, IsState}
 
 -- ---- endings of a state

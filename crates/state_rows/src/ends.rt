@@ -10,6 +10,7 @@ use kb_path_lines::no_input;
 use kb_picture::{Ended, Init, Leaf, Out, Path, SymEnding};
 use kb_report_text::{Report, report_text};
 use kb_rows::{Held, Row};
+use kb_stated::{made, writes};
 use kb_table::{RowResult, RowStop, kept};
 use kb_world::World;
 use std::alloc::Global;
@@ -75,8 +76,8 @@ fn open_path(state: &SymState) -> RowResult<Path> {
 /// What the state leaves where it returns the value of the word. There are no ints in it, so that the path has no terms.
 fn ended(alloc: Global, state: &SymState, word: &str) -> RowResult<Ended> {
     let value = stated(state.resolved(value_of(state, word)?))?;
-    let writes = kept(state.writes())?;
-    let made = kept(state.made())?;
+    let writes = kept(writes(alloc, state))?;
+    let made = kept(made(alloc, state))?;
     Ok(Ended {
         ending: SymEnding::Returned(Some(value)),
         writes,

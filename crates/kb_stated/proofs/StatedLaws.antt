@@ -6,7 +6,7 @@ use Rattle.kb_picture.specs.declared.picture.PicLoc.{PicLoc}
 use Rattle.kb_picture.specs.declared.picture.PicObject.{PicObject}
 use Rattle.kb_picture.specs.declared.path.Write.{Write}
 use Rattle.kb_frames.specs.declared.value.Cell.{Cell}
-use Rattle.kb_frames.specs.Stated.{object_writes, writes_from}
+use Rattle.kb_stated.specs.Stated.{object_writes, writes_from}
 
 -- the first item, and the others
 front_is : {X : Type 0} (rest : List X) (item : X) → 1 ≤ length rest → item ≡ get_or rest 0 item → item ∷ take (length rest - 1) (drop 1 rest) ≡ rest

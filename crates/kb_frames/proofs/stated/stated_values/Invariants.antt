@@ -1,6 +1,0 @@
-use Rattle.std.proofs.Common.{◌≡◌, take}
-use Rattle.kb_frames.specs.Stated.{stated_values}
-use Rattle.kb_frames.proofs.stated.stated_values.Given as goal
-
-abbrev pub invariant-loop-value : goal.invariant-loop-value
-invariant-loop-value l = l.outs ≡ stated_values l.locs (take l.value-index l.values)
