@@ -1,6 +1,6 @@
 -- Where a take of an int step ends a run, the ending states what is there in the state.
 use Rattle.std.proofs.Common.{◌≡◌, ℕ, zero, suc, ◌<◌, ℤ, pos, true, false, List, [], ◌∷◌, ◌++◌, length, length-append, slice_get, nat_le, nat_lt, Option, Some, None, refl, sym, ap, subst, ◌∙◌, arith}
-use Rattle.std.specs.Prelude.{is_some}
+use Rattle.std.specs.Prelude.{is_some, option_map}
 use Rattle.kb_code.specs.declared.instruction.Instr.{Instr}
 use Rattle.kb_code.specs.declared.instruction.Instr.TheVariants as instrs
 use Rattle.kb_code.specs.declared.instruction.IntOp.{IntOp}
@@ -38,7 +38,9 @@ use Rattle.kb_stepint.specs.Effects.{branch_way, computes_by, in_local, int_loca
 use Rattle.kb_stepint.specs.Laws.{OfTakes}
 use Rattle.kb_ways.specs.Operands.{int_term, an_int, two_ints}
 use Rattle.kb_stepint.specs.Takes.{taken}
-use Rattle.kb_ways.specs.Ways.{Take, Way, Goes as WayGoes, Jumps, Leaves, Throws, Fails, ill_typed, went}
+use Rattle.kb_ways.specs.Ways.{Take, Way, Goes as WayGoes, Jumps, Enters, Leaves, Throws, Fails, ends, ill_typed, went}
+use Rattle.kb_picture.specs.declared.path.SymEnding.TheVariants.{Returned}
+use Rattle.kb_ways.proofs.CallLaws.{returned_has}
 use Rattle.kb_ways.proofs.AskedLaws.{interned_is_term}
 use Rattle.kb_ways.proofs.GrowLaws.{Grows, all_asked_grows, if_has, option_has}
 use Rattle.kb_drive.specs.Steps.{EndsIn}
@@ -60,7 +62,7 @@ top_in world state [] t each e = absurd cc
 top_in world state (value ∷ rest) t each e = int_in world state value t (each 0 value refl) e
 
 -- also once the run has its first frame
-begun_top : (world : World) (state : State) (stage : Stage) (t : TermId) → IsStage world state stage → an_int (stack_of (begun_stage world state stage)) ≡ Some t
+pub begun_top : (world : World) (state : State) (stage : Stage) (t : TermId) → IsStage world state stage → an_int (stack_of (begun_stage world state stage)) ≡ Some t
     → IsTerm state.nodes t
 begun_top world state (Begins read) t is e = absurd cc
 begun_top world state (Runs frame callers) t is e = top_in world state frame.stack t is.0.stack e
@@ -72,9 +74,11 @@ abbrev ReturnsIn : World → State → Option SymValue → Type 0
 ReturnsIn world state None = Unit {0}
 ReturnsIn world state (Some value) = IsOutIn world state (length state.made) (out_of value)
 
+-- so it is of a way that returns; no method is called
 abbrev pub LeavesIn : World → State → Way → Type 0
 LeavesIn world state (WayGoes locals stack) = Unit {0}
 LeavesIn world state (Jumps target stack) = Unit {0}
+LeavesIn world state (Enters method arguments rest) = ⊥
 LeavesIn world state (Leaves value) = ReturnsIn world state value
 LeavesIn world state (Throws class) = Unit {0}
 LeavesIn world state Fails = Unit {0}
@@ -116,7 +120,7 @@ module _ (world : World) (state : State) (top : (t : TermId) → an_int (stack_o
   returns_leaves None e = tt
   returns_leaves (Some t) e = returns_has PlanLeaves world state (Int t) (kept_leaves t (top t e)) tt
 
-  effect_leaves : (choice : Choice) (instr : Instr) → PlanLeaves (effect_of world state choice instr)
+  pub effect_leaves : (choice : Choice) (instr : Instr) → PlanLeaves (effect_of world state choice instr)
   effect_leaves choice (instrs.Ldc entry) =
       planned_leaves (int_entry_of world (class_number world (method_now state.method state.stage)) entry) (pushes_int state) (λ z. tt)
   effect_leaves choice (instrs.LoadInt k) = planned_leaves (int_local world state k) _ (λ t. tt)
@@ -160,7 +164,7 @@ module _ (world : World) (bounds : Bounds) where
   pub ill_ends : (state : State) → Ending (ill_typed world state)
   ill_ends state = record { outs = λ i out at. absurd cc; thrown = tt }
 
-  returned_ends : (state : State) (value : Option SymValue) → ReturnsIn world state value → Ending (went world bounds 0 state (Leaves value))
+  returned_ends : (state : State) (value : Option SymValue) → ReturnsIn world state value → Ending (ends state (Returned (option_map out_of value)))
   returned_ends state None there = record { outs = λ i out at. absurd cc; thrown = tt }
   returned_ends state (Some value) there = record { outs = one_out world state (length state.made) (out_of value) there; thrown = tt }
 
@@ -180,7 +184,8 @@ module _ (world : World) (bounds : Bounds) where
   went_ends next state (Jumps target stack) there =
       if_has Ending (has_room world (method_now state.method state.stage) (length stack)) _ _
       (option_has Ending (counted bounds.run (offset_now state.stage) target (transfers_of state.stage)) _ _ (λ n. tt) tt) (ill_ends state)
-  went_ends next state (Leaves value) there = returned_ends state value there
+  went_ends next state (Enters method arguments rest) there = absurd there
+  went_ends next state (Leaves value) there = returned_has Ending world state value (returned_ends state value there) (λ caller more waits. tt) (ill_ends state)
   went_ends next state (Throws class) there = thrown_ends state class
   went_ends next state Fails there = ill_ends state
 

@@ -17,7 +17,9 @@ use Rattle.kb_frames.specs.declared.value.Outcome.TheVariants.{Asks, Goes, Ends,
 use Rattle.kb_frames.specs.Next.{method_now, next_is_int, offset_now}
 use Rattle.kb_frames.specs.State.{State}
 use Rattle.kb_ways.specs.Built.{IsBuiltNext, is_built_instruction}
-use Rattle.kb_ways.specs.Reached.{IsAlone}
+use Rattle.kb_ways.specs.Reached.{HasNoHandlers, IsAlone}
+use Rattle.kb_ways.proofs.AloneLaws.{alone_unhandled, unhandled_alone}
+use Rattle.kb_drive.proofs.AloneTakes.{references_alone}
 use Rattle.kb_ways.specs.Simulation.{Keeps}
 use Rattle.kb_ways.proofs.SoundLaws.{reached_sound}
 use Rattle.kb_stepint.specs.Laws.{IsAtInts}
@@ -51,12 +53,11 @@ built_next world state h = go (instruction_at world (method_now state.method sta
       (instruction_is_heap world state.method (offset_now state.stage) found h.method (ap (λ (m : MethodId). instruction_at world m (offset_now state.stage)) (sym own) ∙ e))
 
 pub at_ints : (world : World) (state : State) → IsHeapReached world state → next_is_int world state ≡ true → IsAtInts world state
-at_ints world state h ints = record { reached = h.reached; alone = h.alone; unhandled = h.unhandled; next = ints }
+at_ints world state h ints = record { reached = h.reached; unhandled = h.unhandled; next = ints }
 
 pub at_references : (world : World) (state : State) → IsHeapReached world state → next_is_int world state ≡ false → IsAtReferences world state
 at_references world state h next = record {
   reached = h.reached;
-  alone = h.alone;
   unhandled = h.unhandled;
   linked = h.linked;
   lazy = h.lazy;
@@ -80,11 +81,15 @@ goes_on_reached world bounds state choice range h next has pool =
     keeps : Keeps state after
     keeps = kept world bounds state choice (at_references world state h next)
 
+    alone : IsAlone after.method after.stage
+    alone = references_alone world bounds state choice range (at_references world state h next) h.alone has
+
     known : IsKnown world after → IsHeapReached world after
     known is = record {
       reached = reached_sound world after is.sound pool;
-      alone = is.sound.alone;
-      unhandled = is.sound.unhandled;
+      alone = alone;
+      unhandled = alone_unhandled world after.method after.stage alone
+          (subst (HasNoHandlers world) (sym keeps.method) (unhandled_alone world state.method state.stage h.alone h.unhandled));
       linked = h.linked;
       method = subst (λ (m : MethodId). is_heap_method world m ≡ true) (sym keeps.method) h.method;
       lazy = is.lazy;

@@ -14,21 +14,24 @@ use Rattle.kb_stepint.specs.Laws.{IsAtInts}
 use Rattle.kb_ways.specs.Simulation.{Keeps}
 use Rattle.kb_stepint.specs.Takes.{taken as int_taken, reads_argument}
 use Rattle.kb_stepint.proofs.KeepLaws.{kept as int_kept, takes_next_stays}
-use Rattle.kb_stepint.proofs.ReachedLaws.{is_reached as int_is_reached, taken_sound}
+use Rattle.kb_stepint.proofs.ReachedLaws.{is_reached as int_is_reached}
 use Rattle.kb_drive.specs.HeapMethods.{is_heap_method}
 use Rattle.kb_drive.specs.Reached.{IsHeapReached}
 use Rattle.kb_stepref.proofs.ReachedLaws.{IsPlain, int_plain}
 use Rattle.kb_ways.specs.Plans.{takes_next}
 use Rattle.kb_stepint.specs.Effects.{plan_of}
 use Rattle.kb_drive.proofs.HeapLaws.{at_ints}
-use Rattle.kb_ways.proofs.SoundLaws.{Sound}
+use Rattle.kb_ways.specs.Reached.{HasNoHandlers, IsAlone}
+use Rattle.kb_ways.proofs.AloneLaws.{alone_unhandled, unhandled_alone}
+use Rattle.kb_drive.proofs.AloneTakes.{ints_alone}
 
 pub ints_keep : (world : World) (bounds : Bounds) (state : State) (choice : Choice) → IsHeapReached world state → next_is_int world state ≡ true
     → IsPool (int_taken world bounds state choice).state.nodes → IsHeapReached world (int_taken world bounds state choice).state
 ints_keep world bounds state choice h ints pool = record {
   reached = int_is_reached world bounds choice state at pool;
-  alone = behind.alone;
-  unhandled = behind.unhandled;
+  alone = alone;
+  unhandled = alone_unhandled world (int_taken world bounds state choice).state.method (int_taken world bounds state choice).state.stage alone
+      (subst (HasNoHandlers world) (sym keeps.method) (unhandled_alone world state.method state.stage h.alone h.unhandled));
   linked = h.linked;
   method = subst (λ m. is_heap_method world m ≡ true) (sym keeps.method) h.method;
   lazy = keeps.init ∙ h.lazy;
@@ -38,8 +41,8 @@ ints_keep world bounds state choice h ints pool = record {
   at : IsAtInts world state
   at = at_ints world state h ints
 
-  behind : Sound world (int_taken world bounds state choice).state
-  behind = taken_sound world bounds choice state at
+  alone : IsAlone (int_taken world bounds state choice).state.method (int_taken world bounds state choice).state.stage
+  alone = ints_alone world bounds state choice at h.alone
 
   keeps : Keeps state (int_taken world bounds state choice).state
   keeps = int_kept world bounds state choice

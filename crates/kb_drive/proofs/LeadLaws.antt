@@ -43,7 +43,10 @@ use Rattle.kb_stepint.specs.Laws.{IsAtInts}
 use Rattle.kb_ways.specs.Simulation.{GetsOn}
 use Rattle.kb_stepint.specs.Takes.{taken, reads_argument}
 use Rattle.kb_ways.specs.Plans.{takes_next, takes_up, carried_out}
-use Rattle.kb_ways.specs.Ways.{Take, Way, Goes as WayGoes, Jumps, Leaves, Throws, Fails, carries_out, ill_typed, went}
+use Rattle.kb_ways.specs.Ways.{Take, Way, Goes as WayGoes, Jumps, Enters, Leaves, Throws, Fails, carries_out, ill_typed, resumes, went}
+use Rattle.kb_frames.specs.Calls.{called_stage, left, left_stage}
+use Rattle.kb_frames.specs.declared.value.SymValue.{SymValue}
+use Rattle.kb_ways.proofs.CallLaws.{entered_has, returned_has}
 use Rattle.kb_ways.proofs.GrowLaws.{Grows, all_asked_grows, front_itself, if_has, option_has, HasMore}
 use Rattle.kb_stepint.proofs.AddedLaws.{adds}
 use Rattle.kb_stepint.proofs.KeepLaws.{kept, reads, takes_next_stays, effect_makes}
@@ -130,6 +133,15 @@ pub framed_runs : (f : SymFrame → SymFrame) (stage : Stage) → IsRunning stag
 framed_runs f (Begins read) running = absurd running
 framed_runs f (Runs frame callers) running = tt
 
+called_runs : (world : World) (method : MethodId) (arguments rest : List SymValue) (stage : Stage) → IsRunning stage → IsRunning (called_stage world method arguments rest stage)
+called_runs world method arguments rest (Begins read) running = absurd running
+called_runs world method arguments rest (Runs frame callers) running = tt
+
+left_runs : (stage : Stage) → IsRunning stage → IsRunning (left_stage stage)
+left_runs (Begins read) running = absurd running
+left_runs (Runs frame []) running = tt
+left_runs (Runs frame (caller ∷ more)) running = tt
+
 pub begun_runs : (world : World) (state : State) (stage : Stage) → IsRunning (begun_stage world state stage)
 begun_runs world state (Begins read) = tt
 begun_runs world state (Runs frame callers) = tt
@@ -150,7 +162,10 @@ module _ (world : World) (bounds : Bounds) (old : State) where
         if_has Few (has_room world (method_now state.method state.stage) (length stack)) _ _
         (option_has Few (counted bounds.run (offset_now state.stage) target (transfers_of state.stage)) _ _
         (λ n. carries_few state (λ (frame : SymFrame). record frame { at = target; stack = stack; transfers = n }) running) tt) tt
-    went_few next state (Leaves value) running = tt
+    went_few next state (Enters method arguments rest) running =
+        entered_has Few world bounds state method arguments rest (within, few_at world state.method (called_stage world method arguments rest state.stage) (called_runs world method arguments rest state.stage running)) tt
+    went_few next state (Leaves value) running =
+        returned_has Few world state value tt (λ caller more waits. carries_few (left state) (resumes world value) (left_runs state.stage running)) tt
     went_few next state (Throws class) running = tt
     went_few next state Fails running = tt
 

@@ -1,3 +1,4 @@
+pub mod AloneTakes
 pub mod BeginLaws
 pub mod CountLaws
 pub mod CoveringLaws

@@ -55,7 +55,7 @@ sym_in world state (Loc number) none is =
     let empty : length state.picture.locs ≡ 0 = ap length none in
     absurd (omega (arith, inside, empty))
 
-stack_there : (world : World) (state : State) (stage : Stage) → IsStage world state stage → Each (IsSymValue world state) (stack_of stage)
+pub stack_there : (world : World) (state : State) (stage : Stage) → IsStage world state stage → Each (IsSymValue world state) (stack_of stage)
 stack_there world state (Begins read) is = λ i value at. absurd cc
 stack_there world state (Runs frame callers) is = is.0.stack
 
@@ -107,7 +107,7 @@ module _ (world : World) (state : State) (none : state.picture.locs ≡ []) (sta
       returns_has PlanLeaves world state value
       (λ type. sym_in world (kept_in type value state).0 (kept_in type value state).1 (ap (λ (s : State). s.picture.locs) (kept_more type value state).rest ∙ none) (kept_there world state type value there)) tt
 
-  plan_leaves : (instr : Instr) → PlanLeaves (plan_of world state Only instr)
+  pub plan_leaves : (instr : Instr) → PlanLeaves (plan_of world state Only instr)
   plan_leaves (instrs.LoadRef k) = planned_leaves (reference (cond (is_local world state k) (local_in state.stage k) None)) _ (λ value. tt)
   plan_leaves (instrs.StoreRef k) = planned_leaves (a_reference (stack_of state.stage)) _ (λ value. local_leaves k value _)
   plan_leaves (instrs.IfSame want target) = planned_leaves (two_references (stack_of state.stage)) _ (λ t. branch_leaves _ target 2)
@@ -139,7 +139,7 @@ module _ (world : World) (bounds : Bounds) where
   takes_next_ends : (state : State) → IsAtReferences world state → question_of world state bounds ≡ None → Ends (takes_next plan_of world bounds Only state)
   takes_next_ends state at asks =
       if_has Ends (nat_le bounds.run.steps state.carried) _ (takes_up plan_of world bounds Only (begun world state)) tt
-      (takes_up_ends (begun world state) at.known (begun_sound world state (sound_reached world state at.reached at.alone at.unhandled) (none_asked world bounds state asks)).stage)
+      (takes_up_ends (begun world state) at.known (begun_sound world state (sound_reached world state at.reached) (none_asked world bounds state asks)).stage)
 
   behind_ends : (slot : Origin) (state : State) → state.picture.locs ≡ [] → IsStage world state state.stage → Ends (goes_behind plan_of world bounds slot state)
   behind_ends (Arg number) state none is = tt

@@ -8,14 +8,14 @@ use Rattle.kb_picture.specs.declared.choice.Init.TheVariants.{Lazy}
 use Rattle.kb_frames.specs.declared.value.Outcome.{Outcome}
 use Rattle.kb_frames.specs.declared.value.Outcome.TheVariants.{Asks, Goes, Ends, Cut}
 use Rattle.kb_frames.specs.State.{State}
-use Rattle.kb_ways.specs.Reached.{HasNoHandlers, IsAlone, IsReached}
+use Rattle.kb_ways.specs.Reached.{HaveNoHandlers, IsAlone, IsReached}
 use Rattle.kb_drive.specs.HeapMethods.{is_heap_method}
 
 pub record IsHeapReached (world : World) (state : State) : Type 0 where
   pub reached : IsReached world state
-  -- no method was called, and the method has no handlers
+  -- no method was called, and no method of its frames has handlers
   pub alone : IsAlone state.method state.stage
-  pub unhandled : HasNoHandlers world state.method
+  pub unhandled : HaveNoHandlers world state.method state.stage
   pub linked : IsLinked world
   pub method : is_heap_method world state.method ≡ true
   -- every object is chosen when its reference is read, and none is left open

@@ -1,7 +1,7 @@
 -- A stack as the list of its values from the top down.
 use Rattle.std.proofs.Common.{◌≡◌, ℕ, zero, suc, ◌-◌, ◌<◌, ◌≤◌, List, [], ◌∷◌, ◌++◌, length, take, drop, reverse, get_or, slice_get, nat_lt, Bool, true, false, Some, refl, sym, ap, ◌∙◌, arith}
 use Rattle.std.proofs.lemmas.Bool.{ltb-true, ltb-false}
-use Rattle.std.proofs.lemmas.List.{reverse-append, length-reverse, length-drop, take-append-drop, get_or-reverse}
+use Rattle.std.proofs.lemmas.List.{reverse-append, reverse-reverse, take_all, length-reverse, length-drop, take-append-drop, get_or-reverse}
 use Rattle.std.proofs.lemmas.Option.{slice_get-get_or}
 
 module _ {A : Type 0} where
@@ -35,3 +35,34 @@ module _ {A : Type 0} where
   -- the value so deep
   pub from_top : (xs : List A) (n : ℕ) (d : A) → n < length xs → slice_get (reverse xs) n ≡ Some (get_or xs (length xs - 1 - n) d)
   from_top xs n d h = slice_get-get_or (reverse xs) n d (omega (arith, h, length-reverse xs)) ∙ ap Some (get_or-reverse xs n d h)
+
+  -- that of the top, among the values from the lowest on
+  pub last_is : (xs : List A) → slice_get (reverse xs) 0 ≡ slice_get xs (length xs - 1)
+  last_is [] = refl
+  last_is (x ∷ xs) =
+      let same : length (x ∷ xs) - 1 - 0 ≡ length (x ∷ xs) - 1 = omega arith in
+      from_top (x ∷ xs) 0 x (omega arith) ∙ ap (λ (n : ℕ). Some (get_or (x ∷ xs) n x)) same ∙ sym (slice_get-get_or (x ∷ xs) (length (x ∷ xs) - 1) x (omega arith))
+
+  take_left : (xs ys : List A) (n : ℕ) → n ≡ length xs → take n (xs ++ ys) ≡ xs
+  take_left [] ys zero e = refl
+  take_left [] ys (suc n) e = absurd (omega arith)
+  take_left (x ∷ xs) ys zero e = absurd (omega arith)
+  take_left (x ∷ xs) ys (suc n) e = ap (λ (l : List A). x ∷ l) (take_left xs ys n (omega arith))
+
+  -- the top ones, from the lowest on
+  pub top_right : (xs : List A) (n k : ℕ) → k ≡ length xs - n → take (length xs - k) (drop k xs) ≡ reverse (take n (reverse xs))
+  top_right xs n k e = whole ∙ go (nat_lt (length xs) n) refl
+    where
+      whole : take (length xs - k) (drop k xs) ≡ drop k xs
+      whole = take_all (length xs - k) (drop k xs) (omega (arith, length-drop k xs))
+
+      go : (b : Bool) → nat_lt (length xs) n ≡ b → drop k xs ≡ reverse (take n (reverse xs))
+      go true f =
+          let past : length xs < n = ltb-true (length xs) n f in
+          let none : k ≡ 0 = omega (arith, past, e) in
+          ap (λ (m : ℕ). drop m xs) none ∙ sym (reverse-reverse xs) ∙ ap reverse (sym (take_all n (reverse xs) (omega (arith, past, length-reverse xs))))
+      go false f =
+          let within : n ≤ length xs = ltb-false (length xs) n f in
+          let parts : reverse xs ≡ reverse (drop k xs) ++ reverse (take k xs) = ap reverse (sym (take-append-drop k xs)) ∙ reverse-append (take k xs) (drop k xs) in
+          sym (ap reverse (ap (take n) parts ∙ take_left (reverse (drop k xs)) (reverse (take k xs)) n (omega (arith, within, e, length-reverse (drop k xs), length-drop k xs)))
+          ∙ reverse-reverse (drop k xs))

@@ -1,6 +1,7 @@
 -- What a step reads of a state and writes into it, each the whole state afterwards. A state that reads its arguments has no
 -- frame: the writes into the current frame leave it as it is.
 use Rattle.std.specs.Prelude.{ℕ, ◌+◌, ◌-◌, List, [], ◌∷◌, ◌++◌, length, map, drop, replicate, Option, Some, None, option_and_then, slice_get, slice_set}
+use Rattle.kb_class.specs.declared.ids.MethodId.{MethodId}
 use Rattle.kb_classes.specs.World.{World}
 use Rattle.kb_semantics.specs.Config.{max_locals_of}
 use Rattle.kb_terms.specs.declared.node.Node.{Node}
@@ -28,6 +29,11 @@ local_in stage number = option_and_then (λ (value : Option SymValue). value) (s
 abbrev pub transfers_of : Stage → ℕ
 transfers_of (Begins read) = 0
 transfers_of (Runs frame callers) = frame.transfers
+
+-- the frames of the callers, from the nearest on
+abbrev pub callers_of : Stage → List SymFrame
+callers_of (Begins read) = []
+callers_of (Runs frame callers) = callers
 
 -- ---- what is written into the current frame
 
@@ -77,9 +83,12 @@ read_count (Runs frame callers) = 0
 abbrev pub begun_locals : List SymValue → ℕ → List (Option SymValue)
 begun_locals read limit = map (λ (value : SymValue). Some value) read ++ replicate (limit - length read) None
 
+-- the frame of a method that begins with these arguments: it holds them all, whatever the limit on its locals is (own)
+abbrev pub begun_frame : World → MethodId → List SymValue → SymFrame
+begun_frame world method arguments = record { method = method; at = 0; locals = begun_locals arguments (max_locals_of world method); stack = []; transfers = 0 }
+
 abbrev pub begun_stage : World → State → Stage → Stage
-begun_stage world state (Begins read) =
-    Runs (record { method = state.method; at = 0; locals = begun_locals read (max_locals_of world state.method); stack = []; transfers = 0 }) []
+begun_stage world state (Begins read) = Runs (begun_frame world state.method read) []
 begun_stage world state (Runs frame callers) = Runs frame callers
 
 -- All arguments are read: the run has its first frame, which holds them all.

@@ -8,6 +8,7 @@ pub mod States
 pub mod Heaps
 pub mod FirstReads
 pub mod Lent
+pub mod Calls
 pub mod Paths
 pub mod Comparing
 pub mod Making

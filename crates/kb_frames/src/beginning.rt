@@ -1,12 +1,13 @@
 //! How a run begins: its arguments are read, and it has its first frame.
 ghost use Rattle.std.specs.Prelude.{◌≡◌, ◌++◌, map, replicate, Some, IfOk, OnOk};
-ghost use Rattle.kb_frames.specs.Lent.{begun, begun_locals, read_count};
+ghost use Rattle.kb_frames.specs.Lent.{begun, begun_frame, begun_locals, read_count};
 
 use crate::NoMemory;
 use crate::first_reads::numbered;
 use crate::frame::{SymCallers, SymFrame, SymStack};
 use crate::state::{Stage, SymState};
 use crate::value::SymValue;
+use kb_class::MethodId;
 use kb_lookups::max_locals;
 use kb_rows::Row;
 use kb_semantics::World;
@@ -29,19 +30,31 @@ impl SymState {
     {
         let alloc = self.alloc;
         if let Stage::Begins(read) = &self.stage {
-            let limit = usize::from(max_locals(world, self.method));
-            let locals = begun_locals(alloc, read.as_slice(), limit)?;
-            let frame = SymFrame {
-                method: self.method,
-                at: 0,
-                locals,
-                stack: SymStack::new(alloc),
-                transfers: 0,
-            };
+            let frame = begun_frame(alloc, world, self.method, read.as_slice())?;
             self.stage = Stage::Runs(frame, SymCallers::new(alloc));
         }
         Ok(())
     }
+}
+
+/// The frame of a method that begins with these arguments.
+pub(crate) fn begun_frame(
+    alloc: Global,
+    world: &World,
+    method: MethodId,
+    arguments: &[SymValue],
+) -> Result<SymFrame, NoMemory>
+    ensures { IfOk result (λ frame. frame ≡ begun_frame world.now method arguments.now) }
+{
+    let limit = usize::from(max_locals(world, method));
+    let locals = begun_locals(alloc, arguments, limit)?;
+    Ok(SymFrame {
+        method,
+        at: 0,
+        locals,
+        stack: SymStack::new(alloc),
+        transfers: 0,
+    })
 }
 
 // The locals of a frame that begins with these arguments, the others not written.

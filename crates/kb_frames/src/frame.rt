@@ -1,5 +1,6 @@
 //! The frames of a state (The Java Virtual Machine Specification, Java SE 8 Edition, section 2.6).
-ghost use Rattle.std.specs.Prelude.{◌≡◌, [], ◌∷◌, drop, length, slice_get, slice_set, Some, IfOk, OnOk, OnErr};
+ghost use Rattle.std.specs.Prelude.{◌≡◌, [], ◌∷◌, drop, length, option_map, reverse, slice_get, slice_set, take, Some, IfOk, IfSome, IfNone, OnOk, OnErr};
+ghost use Rattle.kb_frames.specs.declared.frame.SymFrame.{SymFrame as PlainFrame};
 
 use crate::NoMemory;
 use crate::value::SymValue;
@@ -66,6 +67,15 @@ impl SymStack {
             Ok(()) => Ok(()),
             Err(_) => Err(NoMemory),
         }
+    }
+
+    /// So many values from the top, the lowest one first.
+    #[tactic(auto, using(crate::proofs::StackLaws::top_right))]
+    pub(crate) fn top(&self, count: usize) -> &[SymValue]
+        ensures { result.now ≡ reverse (take count self.now) }
+    {
+        let kept = self.values.len().saturating_sub(count);
+        &self.values[kept..]
     }
 
     /// Takes so many values off the top.
@@ -148,6 +158,41 @@ impl SymCallers {
         Ok(SymCallers {
             frames: frames.into_vec(),
         })
+    }
+
+    pub(crate) fn len(&self) -> usize
+        ensures { result ≡ length self.now }
+    {
+        self.frames.len()
+    }
+
+    /// The method of the nearest one, and the height of its stack.
+    #[tactic(auto, using(crate::proofs::StackLaws::last_is))]
+    pub(crate) fn nearest(&self) -> Option<(MethodId, usize)>
+        ensures { result ≡ option_map (λ (caller : PlainFrame). (caller.method, length caller.stack)) (slice_get self.now 0) }
+    {
+        match self.frames.as_slice().last() {
+            Some(caller) => Some((caller.method, caller.stack.height())),
+            None => None,
+        }
+    }
+
+    pub(crate) fn push(&mut self, frame: SymFrame) -> Result<(), NoMemory>
+        ensures { OnOk result (self.new ≡ frame ∷ self.old) }
+    {
+        match self.frames.push(frame) {
+            Ok(()) => Ok(()),
+            Err(_) => Err(NoMemory),
+        }
+    }
+
+    /// Takes off the nearest one.
+    pub(crate) fn pop(&mut self) -> Option<SymFrame>
+        ensures some { IfSome result (λ frame. self.old ≡ frame ∷ self.new) }
+        ensures none { IfNone result (self.old ≡ []) }
+        ensures left { IfNone result (self.new ≡ []) }
+    {
+        self.frames.pop()
     }
 }
 

@@ -1,5 +1,5 @@
 //! What steps read of a state and write into it.
-ghost use Rattle.std.specs.Prelude.{◌≡◌, ◌+◌, ◌<◌, ◌^◌, length, slice_get, IfOk, OnOk, OnErr};
+ghost use Rattle.std.specs.Prelude.{◌≡◌, ◌+◌, ◌<◌, ◌^◌, length, reverse, slice_get, take, IfOk, OnOk, OnErr};
 ghost use Rattle.kb_terms.specs.Terms.{AreOperands, HasNode, Extends, made_node};
 ghost use Rattle.kb_terms.specs.declared.node.Node.TheVariants.{Const};
 ghost use Rattle.kb_frames.specs.Lent.{stack_of, local_in, transfers_of, pushed, popped, stored, moved, transferred, carried_on, with_nodes};
@@ -62,6 +62,17 @@ impl SymState {
         match &self.stage {
             Stage::Begins(_) => None,
             Stage::Runs(frame, _) => frame.stack.value_at(depth),
+        }
+    }
+
+    /// So many values from the top of the operand stack of the current frame, the lowest one first. All of them, where there are
+    /// fewer.
+    pub fn topmost(&self, count: usize) -> &[SymValue]
+        ensures { result.now ≡ reverse (take count (stack_of self.now.stage)) }
+    {
+        match &self.stage {
+            Stage::Begins(_) => &[],
+            Stage::Runs(frame, _) => frame.stack.top(count),
         }
     }
 

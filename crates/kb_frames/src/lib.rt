@@ -6,6 +6,7 @@
 
 mod beginning;
 mod bindings;
+mod calls;
 mod first_reads;
 mod frame;
 mod heaps;

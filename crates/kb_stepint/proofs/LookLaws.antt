@@ -91,7 +91,7 @@ module _ (world : World) (bounds : Bounds) (state : State) where
       look_terms ints =
           subst (λ (w : World). HasTerms (begun w state)) (sym at.world_is)
           (sound_terms world (begun world state)
-          (begun_sound world state (sound_reached world state ints.reached ints.alone ints.unhandled) (is_taken_up world bounds state (found_of turn) (sym found)).read))
+          (begun_sound world state (sound_reached world state ints.reached) (is_taken_up world bounds state (found_of turn) (sym found)).read))
 
       asks : (choice : Choice) → conditions_by look.question choice ≡ conditions_of turn.instr.now (stack_of (begun turn.world.now state).stage) choice
       asks choice =

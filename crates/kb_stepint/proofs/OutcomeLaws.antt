@@ -34,7 +34,7 @@ use Rattle.kb_frames.specs.declared.value.SymValue.TheVariants.{Int}
 use Rattle.kb_frames.specs.Cuts.{setting_of}
 use Rattle.kb_frames.specs.Lent.{begun, begun_stage, stack_of}
 use Rattle.kb_frames.specs.Next.{argument_next, instruction_next, is_int, is_int_instruction, is_int_next, method_now, offset_now}
-use Rattle.kb_frames.specs.StandsFor.{FrameStandsFor, IsInstanceOf, StandsFor, reading_at}
+use Rattle.kb_frames.specs.StandsFor.{FrameStandsFor, FramesStandFor, IsInstanceOf, StandsFor, reading_at}
 use Rattle.kb_frames.specs.State.{State}
 use Rattle.kb_frames.proofs.RunLaws.{counters_agree}
 use Rattle.kb_ways.specs.declared.condition.Condition.{Condition}
@@ -45,7 +45,7 @@ use Rattle.kb_ways.specs.Plans.{Planned, carried_out, takes_next, takes_up, foll
 use Rattle.kb_stepint.specs.Effects.{plan_of, effect_of}
 use Rattle.kb_stepint.specs.Laws.{IsAtInts}
 use Rattle.kb_ways.specs.Needs.{IsTermOf}
-use Rattle.kb_ways.specs.Reached.{IsAlone}
+use Rattle.kb_ways.specs.Reached.{HaveNoHandlers}
 use Rattle.kb_ways.specs.Simulation.{FollowsStep, IsOutcome}
 use Rattle.kb_stepint.specs.Takes.{reads_argument, taken}
 use Rattle.kb_ways.specs.Ways.{Take, ill_typed, went}
@@ -58,8 +58,9 @@ use Rattle.kb_stepint.proofs.OneLaws.{instance_held, one_term, two_terms}
 use Rattle.kb_stepint.proofs.OneListed.{conditions_sides}
 use Rattle.kb_stepint.proofs.OutcomePlans.{HasFrameTerms, Reads, plan_is}
 use Rattle.kb_stepint.proofs.OutcomeReads.{reads_is}
+use Rattle.kb_ways.proofs.AloneLaws.{begun_unhandled}
 use Rattle.kb_ways.proofs.OutcomeStands.{Running, running}
-use Rattle.kb_ways.proofs.OutcomeValues.{frame_later, reading_int, reading_later}
+use Rattle.kb_ways.proofs.OutcomeValues.{frame_later, frames_later, reading_int, reading_later}
 use Rattle.kb_ways.proofs.OutcomeWays.{ill_typed_is, went_is}
 use Rattle.kb_ways.proofs.PastLaws.{cut_by_steps}
 use Rattle.kb_ways.proofs.SoundLaws.{sound_reached}
@@ -101,15 +102,23 @@ module _ (world : World) (bounds : Bounds) (old : State) (at : IsAtInts world ol
   variables = variable_values old.picture input places.objects
 
   run : Running world old old.stage (reading_at world old input places) c
-  run = running s old input c (reading_at world old input places) correct stands.run old.stage at.reached.sound.stage at.alone stands.stage none
+  run = running s old input c (reading_at world old input places) correct stands.run old.stage at.reached.sound.stage stands.stage none
 
-  -- the state with other terms and conditions, in the frame with which it goes on
+  -- the state with other terms and conditions, in the frames with which it goes on
   abbrev canon : List Node → List (TermId × Bool) → State
-  canon nodes when = record old { stage = Runs run.frame []; nodes = nodes; when = when }
+  canon nodes when = record old { stage = Runs run.frame run.callers; nodes = nodes; when = when }
 
   framed : (nodes : List Node) (when : List (TermId × Bool)) → Extends old.nodes nodes → FrameStandsFor (reading_at world (canon nodes when) input places) run.frame c.frame
   framed nodes when more =
       frame_later world old (reading_at world old input places) (reading_at world (canon nodes when) input places) (reading_later world old (canon nodes when) input places refl more) run.frame c.frame run.sound run.stands
+
+  waiting : (nodes : List Node) (when : List (TermId × Bool)) → Extends old.nodes nodes → FramesStandFor (reading_at world (canon nodes when) input places) run.callers c.callers
+  waiting nodes when more =
+      frames_later world old (reading_at world old input places) (reading_at world (canon nodes when) input places) (reading_later world old (canon nodes when) input places refl more) run.callers c.callers run.each
+      run.waiting
+
+  unhandled : HaveNoHandlers world old.method (Runs run.frame run.callers)
+  unhandled = subst (HaveNoHandlers world old.method) run.is (begun_unhandled world old old.stage at.unhandled)
 
   place_is : instruction_at world c.frame.method c.frame.at ≡ instruction_at world (method_now old.method (begun_stage world old old.stage)) (offset_now (begun_stage world old old.stage))
   place_is =
@@ -133,8 +142,8 @@ module _ (world : World) (bounds : Bounds) (old : State) (at : IsAtInts world ol
   runs_off : instruction_at world c.frame.method c.frame.at ≡ None → Follows (ill_typed world (begun world old))
   runs_off e =
       subst (λ (stage : Stage). Follows (ill_typed world (record old { stage = stage }))) (sym run.is)
-      (ill_typed_is world bounds old (sound_reached world old at.reached at.alone at.unhandled) input c stands run.frame run.method run.callers 0 old.nodes (Extends-refl old.nodes) old.when
-      (framed old.nodes old.when (Extends-refl old.nodes)) (step_at None e))
+      (ill_typed_is world bounds old (sound_reached world old at.reached) input c stands run.frame run.callers unhandled 0 old.nodes (Extends-refl old.nodes) old.when
+      (framed old.nodes old.when (Extends-refl old.nodes)) (waiting old.nodes old.when (Extends-refl old.nodes)) (step_at None e))
 
   -- ---- an instruction is carried out
 
@@ -166,10 +175,10 @@ module _ (world : World) (bounds : Bounds) (old : State) (at : IsAtInts world ol
       canon_follows =
           let made : HasMore (canon nodes when) plan.state = effect_makes world (canon nodes when) choice found.0 in
           let on : Extends old.nodes plan.state.nodes = Extends-trans old.nodes nodes plan.state.nodes more made.on.terms in
-          let effect_is = plan_is s c found.1 (record old { when = when }) run.frame nodes variables R reads ordered (frame_terms nodes more) found.0 choice int has held rising in
+          let effect_is = plan_is s c found.1 (record old { when = when }) run.frame run.callers nodes variables R reads ordered (frame_terms nodes more) found.0 choice int has held rising in
           subst (λ (st : State). Follows (went world bounds found.1 st plan.way)) (sym made.rest)
-          (went_is world bounds old (sound_reached world old at.reached at.alone at.unhandled) input c stands run.frame run.method run.callers found.1
-          plan.state.nodes on when (framed plan.state.nodes when on) (stores_at (Some found) there ∙ stores_nothing world run.frame.method found.0 s c int) plan.way (step_at (Some found) there ∙ effect_is))
+          (went_is world bounds old (sound_reached world old at.reached) input c stands run.frame run.callers unhandled found.1
+          plan.state.nodes on when (framed plan.state.nodes when on) (waiting plan.state.nodes when on) (stores_at (Some found) there ∙ stores_nothing world run.frame.method found.0 s c int) plan.way (step_at (Some found) there ∙ effect_is))
 
     -- ---- it is taken up
 
@@ -208,7 +217,7 @@ module _ (world : World) (bounds : Bounds) (old : State) (at : IsAtInts world ol
       let now : is_int_next world (method_now old.method old.stage) (instruction_next world old.method old.stage) ≡ true =
       int_next (argument_next world old.method old.stage) (is_int_next world (method_now old.method old.stage) (instruction_next world old.method old.stage)) none at.next in
       let next : instruction_next world old.method old.stage ≡ Some found.0 = ap (option_map (λ (f : Instr × ℕ). f.0)) (sym (place_same world old old.stage) ∙ e) in
-      let method : run.frame.method ≡ method_now old.method old.stage = run.method ∙ sym (stands_at old.stage at.alone) in
+      let method : run.frame.method ≡ method_now old.method old.stage = ap (method_now old.method) (sym run.is) ∙ begun_method old.stage in
       ap (λ (m : MethodId). is_int_instruction world m found.0) method
       ∙ ap (is_int_next world (method_now old.method old.stage)) (sym next) ∙ now
     where
@@ -216,9 +225,9 @@ module _ (world : World) (bounds : Bounds) (old : State) (at : IsAtInts world ol
       int_next None at_int none int = int
       int_next (Some kind) at_int none int = absurd cc
 
-      stands_at : (stage : Stage) → IsAlone old.method stage → method_now old.method stage ≡ old.method
-      stands_at (Begins read) alone = refl
-      stands_at (Runs frame callers) alone = alone.0
+      begun_method : (stage : Stage) → method_now old.method (begun_stage world old stage) ≡ method_now old.method stage
+      begun_method (Begins read) = refl
+      begun_method (Runs frame callers) = refl
 
   rising_here : (found : Instr × ℕ) → place ≡ Some found → HasRisingKeys found.0
   rising_here found e =

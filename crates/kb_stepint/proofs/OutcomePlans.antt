@@ -203,10 +203,10 @@ pub record HasFrameTerms (nodes : List Node) (frame : SymFrame) : Type 0 where
   pub stack : AreStackTerms nodes frame.stack
   pub locals : (k : ℕ) (value : SymValue) → slice_get frame.locals k ≡ Some (Some value) → IsTermOf nodes (Some value)
 
-module _ (s : Setting) (c : Config) (next : ℕ) (base : State) (frame : SymFrame) (nodes : List Node) (variables : List ℤ) (R : List Node → Reading)
+module _ (s : Setting) (c : Config) (next : ℕ) (base : State) (frame : SymFrame) (callers : List SymFrame) (nodes : List Node) (variables : List ℤ) (R : List Node → Reading)
     (reads : Reads R nodes variables frame c) (ordered : IsOrdered nodes) (terms : HasFrameTerms nodes frame) where
   abbrev state : State
-  state = record base { stage = Runs frame []; nodes = nodes }
+  state = record base { stage = Runs frame callers; nodes = nodes }
 
   abbrev V : TermId → ℤ
   V t = value_of nodes t variables

@@ -32,7 +32,7 @@ use Rattle.kb_ways.proofs.GrowLaws.{if_has, interned_extends, op_extends, option
 use Rattle.kb_frames.proofs.ItemLaws.{each_append, each_cons, each_drop, each_picked, each_set, option_has_at}
 use Rattle.kb_ways.proofs.SoundLaws.{Still, locals_still, values_still}
 use Rattle.kb_ways.proofs.GoodWays.{CanGo, IsGood}
-use Rattle.kb_ways.proofs.KeptLaws.{returns_has}
+use Rattle.kb_ways.proofs.KeptLaws.{kept_there, returns_has}
 
 -- ---- operands
 
@@ -189,6 +189,6 @@ module _ (world : World) (state : State) (room : max_locals_of world (method_now
   effect_good choice (instrs.Table low default targets) = switches_good (is_some (an_int (stack_of state.stage))) (table_keys low targets) default choice
   effect_good choice (instrs.Lookup default keys) = switches_good (is_some (an_int (stack_of state.stage))) keys default choice
   effect_good choice instrs.ReturnInt =
-      planned_good (an_int (stack_of state.stage)) (λ t. returns_value world state (Int t)) (λ t e. returns_has IsGoodPlan world state (Int t) (λ type. tt) tt)
+      planned_good (an_int (stack_of state.stage)) (λ t. returns_value world state (Int t)) (λ t e. returns_has IsGoodPlan world state (Int t) (λ type. kept_there world state type (Int t) (top_term t e)) tt)
   effect_good choice instrs.Return = if_has (IsGood world state) (is_some (result_of world (method_now state.method state.stage))) Fails (Leaves None) tt tt
   effect_good choice _ = tt

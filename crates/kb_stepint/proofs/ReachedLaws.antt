@@ -140,7 +140,7 @@ module _ (world : World) (bounds : Bounds) (choice : Choice) where
   pub taken_sound : (old : State) → IsAtInts world old → Sound world (taken world bounds old choice).state
   taken_sound old at = go (argument_next world old.method old.stage) refl where
     sound : Sound world old
-    sound = sound_reached world old at.reached at.alone at.unhandled
+    sound = sound_reached world old at.reached
 
     go : (next : Option JType) → argument_next world old.method old.stage ≡ next → Sound world (after old next).state
     go None e = takes_next_sound old sound e
@@ -154,7 +154,7 @@ module _ (world : World) (bounds : Bounds) (choice : Choice) where
   pub has_input : (old : State) → IsAtInts world old → HasInputOfState world (taken world bounds old choice).state
   has_input old at = record { typed = (taken_sound old at).typed; receiver = go (argument_next world old.method old.stage) refl } where
     sound : Sound world old
-    sound = sound_reached world old at.reached at.alone at.unhandled
+    sound = sound_reached world old at.reached
 
     go : (next : Option JType) → argument_next world old.method old.stage ≡ next → IsReceiverSeen world (after old next).state.method (after old next).state.picture
     go None e =

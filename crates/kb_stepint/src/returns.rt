@@ -1,4 +1,4 @@
-//! Returns (JVMS 8 section 6.5). For now no method calls another: the run ends.
+//! Returns (JVMS 8 section 6.5).
 ghost use Rattle.std.specs.Prelude.{◌≡◌, IfOk};
 ghost use Rattle.kb_stepint.specs.Effects.{returns_int, returns_nothing};
 ghost use Rattle.kb_ways.specs.Needs.{HasTerms, IsFor};
@@ -6,8 +6,7 @@ ghost use Rattle.kb_ways.specs.Turns.{led_by, told};
 
 use crate::NoMemory;
 use kb_frames::{Outcome, SymState, SymValue};
-use kb_picture::SymEnding;
-use kb_ways::{Turn, an_int, ill_typed, result_of, return_value};
+use kb_ways::{Turn, an_int, ill_typed, result_of, return_value, returns};
 
 /// ireturn
 pub(crate) fn return_int(turn: &Turn<'_>, state: &mut SymState) -> Result<Outcome, NoMemory>
@@ -22,12 +21,12 @@ pub(crate) fn return_int(turn: &Turn<'_>, state: &mut SymState) -> Result<Outcom
 }
 
 /// return
-pub(crate) fn return_nothing(turn: &Turn<'_>, state: &SymState) -> Result<Outcome, NoMemory>
-    requires { IsFor turn.now state.now }
-    ensures { IfOk result (λ outcome. told state.now outcome ≡ led_by turn.now (returns_nothing turn.now.world.now state.now)) }
+pub(crate) fn return_nothing(turn: &Turn<'_>, state: &mut SymState) -> Result<Outcome, NoMemory>
+    requires { IsFor turn.now state.old }
+    ensures { IfOk result (λ outcome. told state.new outcome ≡ led_by turn.now (returns_nothing turn.now.world.now state.old)) }
 {
     match result_of(turn.world, turn.method) {
         Some(_) => ill_typed(turn, state),
-        None => Ok(Outcome::Ends(SymEnding::Returned(None))),
+        None => returns(turn, state, None),
     }
 }

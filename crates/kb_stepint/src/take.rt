@@ -11,7 +11,7 @@ ghost use Rattle.kb_stepint.specs.Choices.{branch_conditions, choices_of, diviso
 ghost use Rattle.kb_stepint.specs.Looks.{IsLookAt};
 ghost use Rattle.kb_stepint.specs.Questions.{HasTermsOf, asks_for, conditions_by};
 ghost use Rattle.kb_ways.specs.Needs.{HasTerms, IsFor, IsSide};
-ghost use Rattle.kb_ways.specs.Reached.{HasNoHandlers, IsAlone, IsReached};
+ghost use Rattle.kb_ways.specs.Reached.{HaveNoHandlers, IsReached};
 ghost use Rattle.kb_stepint.specs.Laws.{IsAtInts};
 ghost use Rattle.kb_stepint.specs.Takes.{reads_argument, taken};
 ghost use Rattle.kb_ways.specs.Plans.{takes_none};
@@ -48,8 +48,7 @@ pub fn take_int(
     bounds: &Bounds,
 ) -> Result<Outcome, NoMemory>
     requires reached { IsReached world.now state.old }
-    requires alone { IsAlone state.old.method state.old.stage }
-    requires unhandled { HasNoHandlers world.now state.old.method }
+    requires unhandled { HaveNoHandlers world.now state.old.method state.old.stage }
     requires int { next_is_int world.now state.old ≡ true }
     requires listed { Has (choices_of world.now state.old bounds.now) choice.now }
     ensures take { IfOk result (λ outcome. told state.new outcome ≡ taken world.now bounds.now state.old choice.now) }

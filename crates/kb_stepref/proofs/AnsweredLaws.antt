@@ -286,7 +286,7 @@ module _ (world : World) (state : State) (sound : Sound world state) (slot : Ori
           each = tells.rows read_state read_more;
           seen = seen_touched cells (λ number place was. was) (subst (IsTouched cells) (sym slot_is) tt);
         })
-        (made_more world state read_state read_more state.made sound.made) (begun_receiver read) tt)
+        (made_more world state read_state read_more state.made sound.made) (begun_receiver read))
 
   -- ---- a field
 
@@ -319,7 +319,7 @@ module _ (world : World) (state : State) (sound : Sound world state) (slot : Ori
           seen = seen_touched all (λ number at was. with_touched cells object place (Read value) number at (λ e. absurd (no_read e)) was) here;
         })
         (made_more world state told_state told_more state.made sound.made)
-        (subst (λ (stage : Stage). HasReadReceiver world state.method stage picture) (sym running) field_receiver) sound.alone
+        (subst (λ (stage : Stage). HasReadReceiver world state.method stage picture) (sym running) field_receiver)
       where
         no_read : Read value ≡ Untouched → ⊥
         no_read e = cc
@@ -331,7 +331,7 @@ module _ (world : World) (bounds : Bounds) (state : State) (at : IsAtReferences 
   typed = at.reached.typed
 
   sound : Sound world state
-  sound = sound_reached world state at.reached at.alone at.unhandled
+  sound = sound_reached world state at.reached
 
   is_asked : IsAsked world bounds state typed slot type
   is_asked = asked world bounds state at slot type asks

@@ -112,7 +112,7 @@ module _ (world : World) (bounds : Bounds) (state : State) (at : IsAtReferences 
     look_terms : HasTerms (begun turn.world.now state)
     look_terms =
         subst (λ (w : World). HasTerms (begun w state)) (sym is_turn.world_is)
-        (sound_terms world (begun world state) (begun_sound world state (sound_reached world state at.reached at.alone at.unhandled) read))
+        (sound_terms world (begun world state) (begun_sound world state (sound_reached world state at.reached) read))
 
     pub look_taken : led_by turn (plan_of turn.world.now (begun turn.world.now state) Only turn.instr.now) ≡ takes_next plan_of world bounds Only state
     look_taken = taken_by plan_of world bounds Only state turn is_turn found

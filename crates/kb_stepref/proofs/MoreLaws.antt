@@ -22,7 +22,7 @@ use Rattle.kb_frames.specs.declared.value.SymValue.TheVariants.{Int, Null, Obj, 
 use Rattle.kb_frames.specs.Heaps.{with_cell}
 use Rattle.kb_frames.specs.State.{State}
 use Rattle.kb_frames.specs.States.{AreCells, Each, HasCells, IsCell, IsFrame, IsLocal, IsMade, IsStage, IsSymValue}
-use Rattle.kb_ways.specs.Reached.{HasReadReceiver, IsAlone}
+use Rattle.kb_ways.specs.Reached.{HasReadReceiver}
 use Rattle.kb_ways.proofs.SoundLaws.{Sound, conditions_still}
 use Rattle.kb_frames.proofs.CellLaws.{with_row}
 
@@ -31,8 +31,8 @@ module _ (world : World) (state : State) (stage : Stage) (picture : Picture) (ce
   changed = record state { stage = stage; picture = picture; cells = cells; made = made; nodes = nodes }
 
   pub changed_sound : Sound world state → Extends state.nodes nodes → IsWellTyped world state.method picture → IsFoundFirst picture → kinds_of nodes ≡ kinds_seen world state.method picture → IsStage world changed stage
-      → AreCells world changed → Each (IsMade world changed) made → HasReadReceiver world state.method stage picture → IsAlone state.method stage → Sound world changed
-  changed_sound sound terms typed found kinds is_stage are_cells are_made receiver alone = record {
+      → AreCells world changed → Each (IsMade world changed) made → HasReadReceiver world state.method stage picture → Sound world changed
+  changed_sound sound terms typed found kinds is_stage are_cells are_made receiver = record {
     typed = typed;
     found = found;
     kinds = kinds;
@@ -41,8 +41,6 @@ module _ (world : World) (state : State) (stage : Stage) (picture : Picture) (ce
     cells = are_cells;
     made = are_made;
     receiver = receiver;
-    alone = alone;
-    unhandled = sound.unhandled;
     parameters = sound.parameters;
     keys = sound.keys;
   }

@@ -41,7 +41,7 @@ use Rattle.kb_ways.proofs.OutcomeStands.{as_many}
 use Rattle.kb_ways.proofs.OutcomeValues.{there}
 use Rattle.kb_ways.proofs.OutcomeWays.{no_place}
 use Rattle.kb_stepref.specs.Fields.{cell_of, has_place, has_slot_of, held, made_value_of}
-use Rattle.kb_stepref.specs.Comparing.{same}
+use Rattle.kb_ways.specs.Identity.{same}
 use Rattle.kb_stepref.specs.Questions.{asks_cell, asks_field}
 use Rattle.kb_frames.proofs.CellLaws.{found_cell}
 use Rattle.kb_stepref.proofs.ReferenceLaws.{IsReference, referred}

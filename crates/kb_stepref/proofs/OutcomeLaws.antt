@@ -31,12 +31,13 @@ use Rattle.kb_frames.specs.Next.{argument_next, instruction_next, method_now, of
 use Rattle.kb_frames.specs.StandsFor.{FrameStandsFor, FramesStandFor, IsInstanceOf, StandsFor, reading_at}
 use Rattle.kb_frames.specs.State.{State}
 use Rattle.kb_frames.proofs.RunLaws.{counters_agree}
-use Rattle.kb_ways.specs.Reached.{IsAlone}
+use Rattle.kb_ways.specs.Reached.{HaveNoHandlers}
 use Rattle.kb_ways.specs.Simulation.{IsOutcome}
 use Rattle.kb_ways.specs.Ways.{Take, ill_typed, went}
 use Rattle.kb_ways.proofs.BegunLaws.{place_same}
 use Rattle.kb_ways.proofs.StepLaws.{step_taken, stores_taken}
-use Rattle.kb_ways.proofs.OutcomeStands.{Running, none_standing, running}
+use Rattle.kb_ways.proofs.AloneLaws.{begun_unhandled}
+use Rattle.kb_ways.proofs.OutcomeStands.{Running, running}
 use Rattle.kb_ways.proofs.OutcomeValues.{heap_later, reading_later}
 use Rattle.kb_ways.proofs.OutcomeWays.{ill_typed_is, went_is}
 use Rattle.kb_ways.proofs.PastLaws.{cut_by_steps}
@@ -54,13 +55,14 @@ use Rattle.kb_picture.specs.declared.choice.Choice.TheVariants.{Only}
 
 -- ---- in a frame
 
-module _ (world : World) (bounds : Bounds) (base : State) (frame : SymFrame) (sound : Sound world (record base { stage = Runs frame [] })) (known : base.picture.locs ≡ []) (ordered : IsOrdered base.nodes)
-    (input : Input) (correct : IsTypeCorrect world base.method input) (c : Config) (stands : StandsFor (setting_of world bounds) (record base { stage = Runs frame [] }) input c) where
+module _ (world : World) (bounds : Bounds) (base : State) (frame : SymFrame) (callers : List SymFrame) (sound : Sound world (record base { stage = Runs frame callers })) (known : base.picture.locs ≡ []) (ordered : IsOrdered base.nodes)
+    (unhandled : HaveNoHandlers world base.method (Runs frame callers)) (input : Input) (correct : IsTypeCorrect world base.method input) (c : Config)
+    (stands : StandsFor (setting_of world bounds) (record base { stage = Runs frame callers }) input c) where
   abbrev s : Setting
   s = setting_of world bounds
 
   abbrev state : State
-  state = record base { stage = Runs frame [] }
+  state = record base { stage = Runs frame callers }
 
   abbrev r : Reading
   r = reading_at world state input stands.instance_of.shape.places
@@ -68,31 +70,31 @@ module _ (world : World) (bounds : Bounds) (base : State) (frame : SymFrame) (so
   framed : FrameStandsFor r frame c.frame
   framed = stands.stage.0
 
-  callers : c.callers ≡ []
-  callers = none_standing r [] c.callers refl stands.stage.1
+  waiting : FramesStandFor r callers c.callers
+  waiting = stands.stage.1
 
   abbrev Follows : Take → Type 0
   Follows take = (i : IsInstanceOf take.state input) → IsOutcome world bounds c take.state input i take.outcome
 
   -- a plan that writes nothing
-  plain_follows : (next : ℕ) (outcome : Outcome) (plan : Planned) → IsPlan world bounds base frame sound known input correct c stands next outcome plan → stores s c ≡ [] → step s c ≡ outcome
+  plain_follows : (next : ℕ) (outcome : Outcome) (plan : Planned) → IsPlan world bounds base frame callers sound known input correct c stands next outcome plan → stores s c ≡ [] → step s c ≡ outcome
       → Follows (followed world bounds next plan)
   plain_follows next outcome plan is stored e =
       subst (λ (st : State). Follows (went world bounds next st plan.way)) (sym is.0)
-      (went_is world bounds state sound input c stands frame sound.alone.0 callers next state.nodes (Extends-refl state.nodes) state.when framed stored plan.way (e ∙ is.1))
+      (went_is world bounds state sound input c stands frame callers unhandled next state.nodes (Extends-refl state.nodes) state.when framed waiting stored plan.way (e ∙ is.1))
 
   -- An instruction is carried out.
   carried_follows : (next : ℕ) (instr : Instr) → is_reference_instruction instr ≡ true → asked_by world state instr ≡ None → stores s c ≡ stored_by instr s c → step s c ≡ effect instr s next c
       → Follows (followed world bounds next (plan_of world state Only instr))
   unfolding effect push_null load_reference store_reference if_same if_null return_reference get_field put_field
-  carried_follows next instrs.PushNull is told stored e = plain_follows next _ (pushes_null state) (pushes_null_is world bounds base frame sound known input correct c stands next) stored e
-  carried_follows next (instrs.LoadRef k) is told stored e = plain_follows next _ (loads world state k) (loads_is world bounds base frame sound known input correct c stands next k) stored e
-  carried_follows next (instrs.StoreRef k) is told stored e = plain_follows next _ (stores_sym world state k) (stores_is world bounds base frame sound known input correct c stands next k) stored e
-  carried_follows next (instrs.IfSame want target) is told stored e = plain_follows next _ (branches_same state want target) (branches_same_is world bounds base frame sound known input correct c stands next want target) stored e
-  carried_follows next (instrs.IfNull want target) is told stored e = plain_follows next _ (branches_null state want target) (branches_null_is world bounds base frame sound known input correct c stands next want target) stored e
-  carried_follows next instrs.ReturnRef is told stored e = plain_follows next _ (returns_reference world state) (returns_reference_is world bounds base frame sound known input correct c stands next) stored e
-  carried_follows next (instrs.GetField entry) is told stored e = plain_follows next _ (gets world state entry) (gets_is world bounds base frame sound known input correct c stands next entry told) stored e
-  carried_follows next (instrs.PutField entry) is told stored e = puts_follow world bounds base frame sound known ordered input correct c stands next entry stored e
+  carried_follows next instrs.PushNull is told stored e = plain_follows next _ (pushes_null state) (pushes_null_is world bounds base frame callers sound known input correct c stands next) stored e
+  carried_follows next (instrs.LoadRef k) is told stored e = plain_follows next _ (loads world state k) (loads_is world bounds base frame callers sound known input correct c stands next k) stored e
+  carried_follows next (instrs.StoreRef k) is told stored e = plain_follows next _ (stores_sym world state k) (stores_is world bounds base frame callers sound known input correct c stands next k) stored e
+  carried_follows next (instrs.IfSame want target) is told stored e = plain_follows next _ (branches_same state want target) (branches_same_is world bounds base frame callers sound known input correct c stands next want target) stored e
+  carried_follows next (instrs.IfNull want target) is told stored e = plain_follows next _ (branches_null state want target) (branches_null_is world bounds base frame callers sound known input correct c stands next want target) stored e
+  carried_follows next instrs.ReturnRef is told stored e = plain_follows next _ (returns_reference world state) (returns_reference_is world bounds base frame callers sound known input correct c stands next) stored e
+  carried_follows next (instrs.GetField entry) is told stored e = plain_follows next _ (gets world state entry) (gets_is world bounds base frame callers sound known input correct c stands next entry told) stored e
+  carried_follows next (instrs.PutField entry) is told stored e = puts_follow world bounds base frame callers sound known ordered unhandled input correct c stands next entry stored e
   carried_follows next _ is told stored e = absurd (true≢false (sym is))
 
   module _ (within : nat_le bounds.run.steps base.carried ≡ false) where
@@ -110,7 +112,7 @@ module _ (world : World) (bounds : Bounds) (base : State) (frame : SymFrame) (so
           → ((found : Instr × ℕ) → it ≡ Some found → (is_reference_instruction found.0 ≡ true) × (asked_by world state found.0 ≡ None))
           → Follows (option_map_or (carried_out plan_of world bounds Only state) it (ill_typed world state))
       go None at told =
-          ill_typed_is world bounds state sound input c stands frame sound.alone.0 callers 0 state.nodes (Extends-refl state.nodes) state.when framed
+          ill_typed_is world bounds state sound input c stands frame callers unhandled 0 state.nodes (Extends-refl state.nodes) state.when framed waiting
           (step_taken s c within_now None (place_is ∙ at))
       go (Some found) at told =
           carried_follows found.1 found.0 (told found refl).0 (told found refl).1 (stores_taken s c within_now (Some found) (place_is ∙ at)) (step_taken s c within_now (Some found) (place_is ∙ at))
@@ -136,17 +138,16 @@ module _ (world : World) (bounds : Bounds) (old : State) (known : old.picture.lo
       Sound world (at_stage stage) → StandsFor (setting_of world bounds) (at_stage stage) input c → AreTold world (at_stage stage)
       → FollowsAt world bounds input c (takes_up plan_of world bounds Only (at_stage stage))
 
-  stage_follows : (stage : Stage) (frame : SymFrame) → stage ≡ Runs frame [] → Taken stage
-  stage_follows stage frame is =
-      subst Taken (sym is) (λ sound stands told. frame_follows world bounds old frame sound known ordered input correct c stands within told)
+  stage_follows : (stage : Stage) (frame : SymFrame) (callers : List SymFrame) → stage ≡ Runs frame callers → HaveNoHandlers world old.method (Runs frame callers) → Taken stage
+  stage_follows stage frame callers is unhandled =
+      subst Taken (sym is) (λ sound stands told. frame_follows world bounds old frame callers sound known ordered unhandled input correct c stands within told)
 
 -- The next instruction of a run whose arguments are read is taken up, where nothing is left to be told.
 pub takes_up_follows : (world : World) (bounds : Bounds) (old : State) (frame : SymFrame) (callers : List SymFrame) → old.stage ≡ Runs frame callers
-    → Sound world old → old.picture.locs ≡ [] → IsOrdered old.nodes → (input : Input) → IsTypeCorrect world old.method input → (c : Config) → StandsFor (setting_of world bounds) old input c
+    → HaveNoHandlers world old.method (Runs frame callers) → Sound world old → old.picture.locs ≡ [] → IsOrdered old.nodes → (input : Input) → IsTypeCorrect world old.method input → (c : Config) → StandsFor (setting_of world bounds) old input c
     → nat_le bounds.run.steps old.carried ≡ false → AreTold world old → FollowsAt world bounds input c (takes_up plan_of world bounds Only old)
-takes_up_follows world bounds old frame callers runs sound known ordered input correct c stands within told =
-    let alone : IsAlone old.method (Runs frame callers) = subst (IsAlone old.method) runs sound.alone in
-    stage_follows world bounds old known ordered input correct c within old.stage frame (runs ∙ ap (Runs frame) alone.1) sound stands told
+takes_up_follows world bounds old frame callers runs unhandled sound known ordered input correct c stands within told =
+    stage_follows world bounds old known ordered input correct c within old.stage frame callers runs unhandled sound stands told
 
 -- ---- a step without a question
 
@@ -163,22 +164,22 @@ module _ (world : World) (bounds : Bounds) (old : State) (at : IsAtReferences wo
   places = stands.instance_of.shape.places
 
   sound : Sound world old
-  sound = sound_reached world old at.reached at.alone at.unhandled
+  sound = sound_reached world old at.reached
 
   module _ (none : argument_next world old.method old.stage ≡ None) where
     run : Running world old old.stage (reading_at world old input places) c
-    run = running (setting_of world bounds) old input c (reading_at world old input places) correct stands.run old.stage sound.stage sound.alone stands.stage none
+    run = running (setting_of world bounds) old input c (reading_at world old input places) correct stands.run old.stage sound.stage stands.stage none
 
     abbrev first_state : State
-    first_state = record old { stage = Runs run.frame [] }
+    first_state = record old { stage = Runs run.frame run.callers }
 
-    -- the frame with which the run goes on stands for the configuration
+    -- the frames with which the run goes on stand for those of the configuration
     first_stands : StandsFor (setting_of world bounds) first_state input c
     unfolding reading_at
     first_stands = record {
       run = stands.run;
       instance_of = record { shape = stands.instance_of.shape; conditions = stands.instance_of.conditions };
-      stage = (run.stands, subst (FramesStandFor (reading_at world old input places) []) (sym run.callers) tt);
+      stage = (run.stands, run.waiting);
       heap = heap_later world old first_state (reading_at world old input places) (reading_at world first_state input places) (first_heap world input.heap) c.heap
           (reading_later world old first_state input places refl (Extends-refl old.nodes)) sound.cells sound.made refl refl stands.heap;
       written = λ slot inside. (
@@ -202,7 +203,8 @@ module _ (world : World) (bounds : Bounds) (old : State) (at : IsAtReferences wo
         → FollowsAt world bounds input c (if b then record { state = old; outcome = Cut Steps } else takes_up plan_of world bounds Only (begun world old))
     by_steps true e quiet = λ i. cut_by_steps world bounds old input c stands (leb-true bounds.run.steps old.carried e)
     by_steps false e quiet =
-        stage_follows world bounds old at.known (pool_ordered old.nodes at.reached.sound.pool) input correct c e (begun_stage world old old.stage) run.frame run.is
+        stage_follows world bounds old at.known (pool_ordered old.nodes at.reached.sound.pool) input correct c e (begun_stage world old old.stage) run.frame run.callers run.is
+        (subst (HaveNoHandlers world old.method) run.is (begun_unhandled world old old.stage at.unhandled))
         (begun_sound world old sound none) begun_stands (begun_told quiet)
 
   -- The next step of a state that asks nothing.

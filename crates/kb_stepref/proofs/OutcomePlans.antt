@@ -36,7 +36,8 @@ use Rattle.kb_ways.specs.Kept.{kept as sym_kept, is_of_kind}
 use Rattle.kb_ways.specs.Plans.{returns_value as returns_value_sym, Planned, plain, planned, leaves_with}
 use Rattle.kb_stepref.specs.Effects.{branch_where, branches_null, branches_same, gets, got, in_local, loads, pushes_null, returns_reference, stores}
 use Rattle.kb_stepref.specs.Fields.{field_named, held}
-use Rattle.kb_stepref.specs.Comparing.{is_null, same}
+use Rattle.kb_ways.specs.Identity.{same}
+use Rattle.kb_stepref.specs.Comparing.{is_null}
 use Rattle.kb_ways.specs.Operands.{a_reference as one_reference, reference, two_references}
 use Rattle.kb_stepref.specs.Questions.{asks_field}
 use Rattle.kb_stepref.proofs.ObjectLaws.{field_held, same_is}
@@ -44,13 +45,13 @@ use Rattle.kb_stepref.proofs.ReferenceLaws.{IsReference, null_is, one_reference_
 use Rattle.kb_ways.proofs.KeptLaws.{reference_is}
 
 -- The state has the frame with which a run goes on whose arguments are read.
-module _ (world : World) (bounds : Bounds) (base : State) (frame : SymFrame) (sound : Sound world (record base { stage = Runs frame [] })) (known : base.picture.locs ≡ [])
-    (input : Input) (correct : IsTypeCorrect world base.method input) (c : Config) (stands : StandsFor (setting_of world bounds) (record base { stage = Runs frame [] }) input c) (next : ℕ) where
+module _ (world : World) (bounds : Bounds) (base : State) (frame : SymFrame) (callers : List SymFrame) (sound : Sound world (record base { stage = Runs frame callers })) (known : base.picture.locs ≡ [])
+    (input : Input) (correct : IsTypeCorrect world base.method input) (c : Config) (stands : StandsFor (setting_of world bounds) (record base { stage = Runs frame callers }) input c) (next : ℕ) where
   abbrev s : Setting
   s = setting_of world bounds
 
   abbrev state : State
-  state = record base { stage = Runs frame [] }
+  state = record base { stage = Runs frame callers }
 
   abbrev r : Reading
   r = reading_at world state input stands.instance_of.shape.places

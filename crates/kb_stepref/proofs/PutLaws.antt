@@ -46,7 +46,7 @@ use Rattle.kb_frames.specs.declared.value.SymValue.TheVariants.{Int, Null, Obj, 
 use Rattle.kb_frames.specs.Cuts.{setting_of}
 use Rattle.kb_frames.specs.Heaps.{with_cell, object_with as sym_object_with}
 use Rattle.kb_frames.specs.Lent.{with_nodes}
-use Rattle.kb_frames.specs.StandsFor.{FrameStandsFor, HeapStandsFor, IsInstanceOf, IsKept, StandsFor, beginning_of, made_at, reading_at, value_of_sym, values_of_sym, written_by}
+use Rattle.kb_frames.specs.StandsFor.{FrameStandsFor, FramesStandFor, HeapStandsFor, IsInstanceOf, IsKept, StandsFor, beginning_of, made_at, reading_at, value_of_sym, values_of_sym, written_by}
 use Rattle.kb_frames.specs.State.{State}
 use Rattle.kb_frames.specs.States.{IsSymValue}
 use Rattle.kb_ways.specs.Kept.{kept as sym_kept, masked, kept_in, is_of_kind}
@@ -54,8 +54,8 @@ use Rattle.kb_ways.specs.Simulation.{IsOutcome}
 use Rattle.kb_ways.specs.Ways.{Take, Goes, Fails, carries_out, ill_typed, went}
 use Rattle.kb_ways.proofs.GrowLaws.{interned_extends, op_extends}
 use Rattle.kb_frames.proofs.ItemLaws.{each_drop, two_parts}
-use Rattle.kb_ways.proofs.OutcomeStands.{none_standing}
-use Rattle.kb_ways.proofs.OutcomeValues.{IsLater, frame_later, heap_later, reading_int, reading_later, there}
+use Rattle.kb_ways.specs.Reached.{HaveNoHandlers}
+use Rattle.kb_ways.proofs.OutcomeValues.{IsLater, frame_later, frames_later, heap_later, reading_int, reading_later, there}
 use Rattle.kb_ways.proofs.OutcomeWays.{ill_typed_is, room_same, throws_is, writes_stand}
 use Rattle.kb_ways.proofs.SoundLaws.{Sound}
 use Rattle.kb_ways.proofs.ValueLaws.{IsOrdered, low_made}
@@ -75,13 +75,14 @@ record IsKeptIn (world : World) (state : State) (input : Input) (places : PlaceL
   state_is : kept.0 ≡ with_nodes state nodes
   value_is : value_of_sym (reading_at world (with_nodes state nodes) input places) kept.1 ≡ value
 
-module _ (world : World) (bounds : Bounds) (base : State) (frame : SymFrame) (sound : Sound world (record base { stage = Runs frame [] })) (known : base.picture.locs ≡ []) (ordered : IsOrdered base.nodes)
-    (input : Input) (correct : IsTypeCorrect world base.method input) (c : Config) (stands : StandsFor (setting_of world bounds) (record base { stage = Runs frame [] }) input c) (next : ℕ) where
+module _ (world : World) (bounds : Bounds) (base : State) (frame : SymFrame) (callers : List SymFrame) (sound : Sound world (record base { stage = Runs frame callers })) (known : base.picture.locs ≡ []) (ordered : IsOrdered base.nodes)
+    (unhandled : HaveNoHandlers world base.method (Runs frame callers)) (input : Input) (correct : IsTypeCorrect world base.method input) (c : Config)
+    (stands : StandsFor (setting_of world bounds) (record base { stage = Runs frame callers }) input c) (next : ℕ) where
   abbrev s : Setting
   s = setting_of world bounds
 
   abbrev state : State
-  state = record base { stage = Runs frame [] }
+  state = record base { stage = Runs frame callers }
 
   abbrev places : PlaceLists
   places = stands.instance_of.shape.places
@@ -95,8 +96,8 @@ module _ (world : World) (bounds : Bounds) (base : State) (frame : SymFrame) (so
   framed : FrameStandsFor r frame c.frame
   framed = stands.stage.0
 
-  callers : c.callers ≡ []
-  callers = none_standing r [] c.callers refl stands.stage.1
+  waiting : FramesStandFor r callers c.callers
+  waiting = stands.stage.1
 
   abbrev rest : List SymValue
   rest = drop 2 frame.stack
@@ -105,7 +106,7 @@ module _ (world : World) (bounds : Bounds) (base : State) (frame : SymFrame) (so
   Follows take = (i : IsInstanceOf take.state input) → IsOutcome world bounds c take.state input i take.outcome
 
   ill : step s c ≡ ill_typed_step s c → Follows (ill_typed world state)
-  ill e = ill_typed_is world bounds state sound input c stands frame sound.alone.0 callers next state.nodes (Extends-refl state.nodes) state.when framed e
+  ill e = ill_typed_is world bounds state sound input c stands frame callers unhandled next state.nodes (Extends-refl state.nodes) state.when framed waiting e
 
   -- ---- what is kept
 
@@ -146,10 +147,10 @@ module _ (world : World) (bounds : Bounds) (base : State) (frame : SymFrame) (so
   module _ (room : has_room world frame.method (length rest) ≡ true) (nodes : List Node) (more : Extends state.nodes nodes) (cells : List (List Cell)) (made : List SymObject) where
     -- the state with what was written, before and behind the step to the next offset
     abbrev put_state : State
-    put_state = record base { stage = Runs frame []; nodes = nodes; cells = cells; made = made }
+    put_state = record base { stage = Runs frame callers; nodes = nodes; cells = cells; made = made }
 
     abbrev new : State
-    new = record base { stage = Runs symbolic []; nodes = nodes; when = base.when; carried = base.carried + 1; cells = cells; made = made }
+    new = record base { stage = Runs symbolic callers; nodes = nodes; when = base.when; carried = base.carried + 1; cells = cells; made = made }
 
     abbrev r' : Reading
     r' = reading_at world new input places
@@ -165,6 +166,9 @@ module _ (world : World) (bounds : Bounds) (base : State) (frame : SymFrame) (so
         frame_later world state r r' later symbolic behind
         (record { room = sound.stage.0.room; locals = sound.stage.0.locals; stack = each_drop (IsSymValue world state) 2 frame.stack sound.stage.0.stack })
         (record { method = framed.method; at = refl; locals = framed.locals; stack = refl; transfers = framed.transfers })
+
+    frames_stand : FramesStandFor r' callers c.callers
+    frames_stand = frames_later world state r r' later callers c.callers sound.stage.1 waiting
 
     abbrev before : List Slot
     before = written_by s state.carried (beginning_of world state input)
@@ -193,7 +197,7 @@ module _ (world : World) (bounds : Bounds) (base : State) (frame : SymFrame) (so
         → step s c ≡ carries_out_step c behind c.callers (with_value c.heap o slot value) → Follows (went world bounds next put_state (Goes frame.locals rest))
     put_follows o slot value object found heap stored kept e =
         subst (λ (b : Bool). Follows (if b then carries_out put_state (λ (f : SymFrame). record f { at = next; locals = frame.locals; stack = rest }) else ill_typed world put_state)) (sym room)
-        (writes_stand world bounds state input c stands callers nodes base.when symbolic behind cells made (with_object_at c.heap o slot value (Some object)) frame_stands heap
+        (writes_stand world bounds state input c stands nodes base.when symbolic callers behind c.callers cells made (with_object_at c.heap o slot value (Some object)) frame_stands frames_stand heap
         (λ x inside. written_is (record { object = o; slot = slot }) stored x inside (kept x inside))
         (e ∙ ap (λ (it : Option Object). carries_out_step c behind c.callers (with_object_at c.heap o slot value it)) found))
 
@@ -240,7 +244,7 @@ module _ (world : World) (bounds : Bounds) (base : State) (frame : SymFrame) (so
         let found : object_at c.heap o ≡ Some (made_at later object.0) =
         ap (object_at c.heap) here ∙ made_at_end later state first c.heap (stood room nodes more base.cells objects) number ∙ ap (option_map (made_at later)) object.1 in
         let inside : field.slot < length (values_of_sym later object.0.values) = subst (λ (n : ℕ). field.slot < n) (sym (length-map object.0.values (value_of_sym later))) object.2 in
-        subst (λ (made : List SymObject). Follows (went world bounds next (record base { stage = Runs frame []; nodes = nodes; made = made }) (Goes frame.locals rest)))
+        subst (λ (made : List SymObject). Follows (went world bounds next (record base { stage = Runs frame callers; nodes = nodes; made = made }) (Goes frame.locals rest)))
         (sym (ap (λ (x : Option SymObject). option_map_or (λ (of : SymObject). slice_set base.made number (sym_object_with of field.slot it)) x base.made) object.1))
         (put_follows room nodes more base.cells objects o field.slot value (made_at later object.0) found
         (made_put later state (new room nodes more base.cells objects) first c.heap (stood room nodes more base.cells objects) stands.instance_of.shape.apart (are_inside room nodes more base.cells objects)
@@ -300,7 +304,7 @@ module _ (world : World) (bounds : Bounds) (base : State) (frame : SymFrame) (so
     by_room object o named is has stored e =
         go (has_room world frame.method (length rest)) refl
         (e ∙ ap (λ (b : Bool). if b then carries_out_step c behind c.callers (with_value c.heap o field.slot value') else ill_typed_step s c)
-        (room_same world bounds state sound input c stands frame sound.alone.0 callers next state.nodes (Extends-refl state.nodes) state.when framed rest))
+        (room_same world bounds state sound input c stands frame callers unhandled next state.nodes (Extends-refl state.nodes) state.when framed waiting rest))
       where
         k : IsKeptIn world state input places (kept_in field.kind value state) value'
         k = kept_is field.kind value value_there
@@ -333,7 +337,7 @@ module _ (world : World) (bounds : Bounds) (base : State) (frame : SymFrame) (so
         → Follows (followed world bounds next (put world state field object value))
     by_object (Int t) reference is stored e = absurd reference
     by_object Null reference is stored e =
-        throws_is world bounds state sound input c stands frame sound.alone.0 callers next state.nodes (Extends-refl state.nodes) state.when framed null_pointer e
+        throws_is world bounds state sound input c stands frame callers unhandled next state.nodes (Extends-refl state.nodes) state.when framed waiting null_pointer e
     by_object (Obj n) reference is stored e = by_place (Obj n) (place_at r.places.objects n) refl is stored e
     by_object (Literal n) reference is stored e = by_place (Literal n) (r.inputs + n) refl is stored e
     by_object (New n) reference is stored e = by_place (New n) (r.inputs + r.literals + n) refl is stored e

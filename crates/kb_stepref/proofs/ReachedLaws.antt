@@ -69,7 +69,7 @@ pub record IsKnown (world : World) (state : State) : Type 0 where
   pub within : HasNoBeyond state.picture
 
 known_at : (world : World) (state : State) → IsAtReferences world state → IsKnown world state
-known_at world state at = record { sound = sound_reached world state at.reached at.alone at.unhandled; lazy = at.lazy; known = at.known; within = at.within }
+known_at world state at = record { sound = sound_reached world state at.reached; lazy = at.lazy; known = at.known; within = at.within }
 
 known_on : (world : World) (old new : State) → IsKnown world old → SoundTo world old new → IsKnown world new
 known_on world old new h to = record {
@@ -171,5 +171,5 @@ goes_on_known world bounds state choice range at has = go (question_of world sta
   go None asks offered =
       stays (takes_next plan_of world bounds Only state)
       (known_on world state (takes_next plan_of world bounds Only state).state (known_at world state at)
-      (takes_next_sound world bounds state (sound_reached world state at.reached at.alone at.unhandled) (none_asked world bounds state asks)))
+      (takes_next_sound world bounds state (sound_reached world state at.reached) (none_asked world bounds state asks)))
   go (Some (Reads slot type)) asks offered = behind slot type asks offered (passed_by choice) refl

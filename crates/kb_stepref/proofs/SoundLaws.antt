@@ -46,7 +46,8 @@ use Rattle.kb_ways.specs.Kept.{kept_in, kept, is_of_kind}
 use Rattle.kb_stepref.specs.Fields.{field_named, has_place, held}
 use Rattle.kb_lazy.specs.Laws.{AreInRange}
 use Rattle.kb_stepref.specs.Laws.{IsAtReferences}
-use Rattle.kb_stepref.specs.Comparing.{is_null, same}
+use Rattle.kb_ways.specs.Identity.{same}
+use Rattle.kb_stepref.specs.Comparing.{is_null}
 use Rattle.kb_ways.specs.Operands.{an_object_and_value, of_kind, a_reference, reference, two_references}
 use Rattle.kb_ways.specs.declared.question.Question.{Question}
 use Rattle.kb_ways.specs.declared.question.Question.TheVariants.{Reads}
@@ -57,7 +58,7 @@ use Rattle.kb_stepref.proofs.AnsweredLaws.{answered_receiver, answered_sound}
 use Rattle.kb_stepref.proofs.FirstReadLaws.{IsAskedAt, asked, where_so}
 use Rattle.kb_frames.proofs.MoreLaws.{locals_more, values_more}
 use Rattle.kb_stepref.proofs.WrittenLaws.{SoundBehind, held_there, kept_behind, put_kept_behind, sound_itself}
-use Rattle.kb_ways.proofs.KeptLaws.{returns_has, of_kind_is, reference_is}
+use Rattle.kb_ways.proofs.KeptLaws.{kept_there, returns_has, of_kind_is, reference_is}
 
 -- ---- operands
 
@@ -206,7 +207,8 @@ module _ (world : World) (state : State) (sound : Sound world state) (frame : Sy
   plan_sound instrs.ReturnRef =
       planned_good (a_reference (stack_of state.stage))
       (returns_value world state)
-      (λ value e. returns_has IsRight world state value (λ type. record { behind = (kept_behind world state sound type value (top_there value e)).behind; good = tt }) fails_good)
+      (λ value e. returns_has IsRight world state value
+      (λ type. record { behind = (kept_behind world state sound type value (top_there value e)).behind; good = kept_there world state type value (top_there value e) }) fails_good)
   plan_sound (instrs.GetField entry) =
       planned_good (field_named world state entry) (λ (field : FieldSlot). planned state (a_reference (stack_of state.stage)) (got world state field))
       (λ field e. planned_good (a_reference (stack_of state.stage)) (got world state field) (λ object f. got_good field object))
@@ -338,7 +340,7 @@ pub taken_sound : (world : World) (bounds : Bounds) (old : State) (choice : Choi
     → IsSoundTake world old (taken world bounds old choice).state
 taken_sound world bounds old choice range at has = go (question_of world old bounds) refl has where
   sound : Sound world old
-  sound = sound_reached world old at.reached at.alone at.unhandled
+  sound = sound_reached world old at.reached
 
   go : (question : Option Question) → question_of world old bounds ≡ question → Has (option_map_or (alternatives world old bounds) question only) choice
       → IsSoundTake world old (option_map_or (answers plan_of world bounds choice old) question (takes_next plan_of world bounds Only old)).state

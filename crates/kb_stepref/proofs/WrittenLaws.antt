@@ -128,7 +128,7 @@ module _ (world : World) (state : State) (sound : Sound world state) (frame : Sy
               (rows_more world state wrote_state state.picture.objects state.cells wrote_more sound.cells.each);
           seen = λ i of at. written_touched of (sound.cells.seen i of at);
         })
-        (made_more world state wrote_state wrote_more state.made sound.made) sound.receiver sound.alone
+        (made_more world state wrote_state wrote_more state.made sound.made) sound.receiver
 
     wrote_behind : SoundBehind world state (wrote number slot value state)
     wrote_behind = record { sound = wrote_sound; more = wrote_more; stage = refl; method = refl; init = refl; picture = refl }
@@ -175,7 +175,7 @@ module _ (world : World) (state : State) (sound : Sound world state) (frame : Sy
           each = rows_more world state made_state state.picture.objects state.cells made_state_more sound.cells.each;
           seen = sound.cells.seen;
         })
-        objects_made sound.receiver sound.alone
+        objects_made sound.receiver
 
     made_behind : SoundBehind world state (wrote_made number slot value state)
     made_behind = record { sound = made_sound; more = made_state_more; stage = refl; method = refl; init = refl; picture = refl }

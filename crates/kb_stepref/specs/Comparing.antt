@@ -1,17 +1,8 @@
--- How two references compare, and one with null (JVMS 8 section 6.5, if_acmp<cond>, ifnull and ifnonnull).
-use Rattle.std.specs.Prelude.{Bool, true, false, nat_eq}
+-- How a reference compares with null (JVMS 8 section 6.5, ifnull and ifnonnull).
+use Rattle.std.specs.Prelude.{Bool, true, false}
 use Rattle.kb_frames.specs.declared.value.SymValue.{SymValue}
-use Rattle.kb_frames.specs.declared.value.SymValue.TheVariants.{Null, Obj, Literal, New}
+use Rattle.kb_frames.specs.declared.value.SymValue.TheVariants.{Null}
 
 abbrev pub is_null : SymValue → Bool
 is_null Null = true
 is_null _ = false
-
--- Whether two references are one (if_acmp<cond>). Two objects of the picture are two objects of an input; a literal and an
--- object that the run has made are none of them.
-abbrev pub same : SymValue → SymValue → Bool
-same Null Null = true
-same (Obj one) (Obj other) = nat_eq one other
-same (Literal one) (Literal other) = nat_eq one other
-same (New one) (New other) = nat_eq one other
-same _ _ = false

@@ -16,7 +16,8 @@ use Rattle.kb_frames.specs.Next.{method_now}
 use Rattle.kb_frames.specs.State.{State}
 use Rattle.kb_ways.specs.Ways.{with_stack, Way, Goes, Jumps, Throws, Fails}
 use Rattle.kb_stepref.specs.Fields.{field_named, has_place, held, put_in}
-use Rattle.kb_stepref.specs.Comparing.{is_null, same}
+use Rattle.kb_ways.specs.Identity.{same}
+use Rattle.kb_stepref.specs.Comparing.{is_null}
 use Rattle.kb_ways.specs.Operands.{an_object_and_value, a_reference, reference, two_references}
 use Rattle.kb_ways.specs.Plans.{Planned, plain, planned, returns_value}
 use Rattle.kb_picture.specs.declared.choice.Choice.{Choice}

@@ -4,12 +4,12 @@ ghost use Rattle.std.specs.Prelude.{◌≡◌, IfOk};
 ghost use Rattle.kb_semantics.specs.Instructions.{is_wanted};
 ghost use Rattle.kb_ways.specs.Needs.{IsFor};
 ghost use Rattle.kb_ways.specs.Turns.{led, told, led_by};
-ghost use Rattle.kb_stepref.specs.Comparing.{is_null, same};
+ghost use Rattle.kb_stepref.specs.Comparing.{is_null};
 ghost use Rattle.kb_stepref.specs.Effects.{branch_where, branches_null, branches_same};
 
 use crate::NoMemory;
 use kb_frames::{Outcome, SymState, SymValue};
-use kb_ways::{Turn, a_reference, ill_typed, jumps, replaces, two_references};
+use kb_ways::{Turn, a_reference, ill_typed, jumps, replaces, same, two_references};
 
 /// if_acmpeq where they are wanted to be one, if_acmpne where they are not
 pub(crate) fn if_same(
@@ -53,19 +53,6 @@ fn is_null(value: SymValue) -> bool
     ensures { result ≡ is_null value }
 {
     matches!(value, SymValue::Null)
-}
-
-// Whether two references are one.
-fn same(one: SymValue, other: SymValue) -> bool
-    ensures { result ≡ same one other }
-{
-    match (one, other) {
-        (SymValue::Null, SymValue::Null) => true,
-        (SymValue::Obj(one), SymValue::Obj(other)) => one == other,
-        (SymValue::Literal(one), SymValue::Literal(other)) => one == other,
-        (SymValue::New(one), SymValue::New(other)) => one == other,
-        _ => false,
-    }
 }
 
 // It goes on at the target where that is so, else at the next offset, with so many values fewer on the stack.

@@ -12,7 +12,6 @@ use Rattle.kb_frames.specs.Next.{method_now, offset_now}
 use Rattle.kb_frames.specs.State.{State}
 use Rattle.kb_frames.specs.States.{Each, IsStage, IsSymValue}
 use Rattle.kb_ways.specs.Needs.{IsTermOf}
-use Rattle.kb_ways.specs.Reached.{IsAlone}
 
 -- ---- the operands are terms
 
@@ -51,7 +50,3 @@ place_same world old (Runs frame callers) = refl
 pub stack_same : (world : World) (old : State) (stage : Stage) → stack_of (begun_stage world old stage) ≡ stack_of stage
 stack_same world old (Begins read) = refl
 stack_same world old (Runs frame callers) = refl
-
-pub method_same : (world : World) (old : State) (stage : Stage) → IsAlone old.method stage → method_now old.method (begun_stage world old stage) ≡ old.method
-method_same world old (Begins read) alone = refl
-method_same world old (Runs frame callers) alone = alone.0

@@ -7,7 +7,7 @@ use Rattle.kb_frames.specs.declared.value.SymValue.{SymValue}
 use Rattle.kb_frames.specs.Next.{method_now, offset_now}
 use Rattle.kb_frames.specs.State.{State}
 use Rattle.kb_frames.specs.States.{Each, IsLocal, IsSymValue}
-use Rattle.kb_ways.specs.Ways.{Way, Goes, Jumps, Leaves, Throws, Fails, Take, carries_out, ill_typed, went}
+use Rattle.kb_ways.specs.Ways.{Way, Goes, Jumps, Enters, Leaves, Throws, Fails, Take, carries_out, ill_typed, went}
 use Rattle.kb_ways.proofs.GrowLaws.{if_has, option_has}
 use Rattle.kb_heap.specs.declared.bounds.Bound.TheVariants.{Loops}
 use Rattle.kb_heap.specs.declared.bounds.Bounds.{Bounds}
@@ -17,7 +17,7 @@ use Rattle.kb_frames.specs.declared.state.Stage.{Stage}
 use Rattle.kb_frames.specs.declared.state.Stage.TheVariants.{Begins, Runs}
 use Rattle.kb_frames.specs.declared.value.Outcome.TheVariants.{Cut}
 use Rattle.kb_frames.specs.Lent.{begun, begun_locals, begun_stage, transfers_of}
-use Rattle.kb_ways.proofs.SoundLaws.{Sound, carried_sound, frame_sound, made_sound}
+use Rattle.kb_ways.proofs.SoundLaws.{Sound, carried_sound, entered_sound, frame_sound, made_sound, returned_sound}
 
 -- ---- ways
 
@@ -30,7 +30,8 @@ pub record CanGo (world : World) (state : State) (locals : List (Option SymValue
 abbrev pub IsGood : World → State → Way → Type 0
 IsGood world state (Goes locals stack) = CanGo world state locals stack
 IsGood world state (Jumps target stack) = Each (IsSymValue world state) stack
-IsGood world state (Leaves value) = Unit {0}
+IsGood world state (Enters method arguments rest) = Each (IsSymValue world state) arguments × Each (IsSymValue world state) rest
+IsGood world state (Leaves value) = IsLocal world state value
 IsGood world state (Throws class) = Unit {0}
 IsGood world state Fails = Unit {0}
 
@@ -43,17 +44,18 @@ module _ (world : World) (bounds : Bounds) (next : ℕ) (state : State) (frame :
   pub went_sound : (way : Way) → IsGood world state way → SoundTo (went world bounds next state way)
   went_sound (Goes locals stack) good =
       if_has SoundTo (has_room world (method_now state.method state.stage) (length stack)) _ (ill_typed world state)
-      (carried_sound world state frame callers running sound (λ (f : SymFrame). record f { at = next; locals = locals; stack = stack }) refl
+      (carried_sound world state frame callers running sound (λ (f : SymFrame). record f { at = next; locals = locals; stack = stack })
       (record { room = subst (λ (stage : Stage). max_locals_of world (method_now state.method stage) ≤ length locals) running good.room; locals = good.each_local; stack = good.each_value }))
       sound
   went_sound (Jumps target stack) good =
       if_has SoundTo (has_room world (method_now state.method state.stage) (length stack)) _ (ill_typed world state)
       (option_has SoundTo (counted bounds.run (offset_now state.stage) target (transfers_of state.stage))
       (λ transfers. carries_out state (λ (f : SymFrame). record f { at = target; stack = stack; transfers = transfers })) (record { state = state; outcome = Cut Loops })
-      (λ transfers. carried_sound world state frame callers running sound (λ (f : SymFrame). record f { at = target; stack = stack; transfers = transfers }) refl
+      (λ transfers. carried_sound world state frame callers running sound (λ (f : SymFrame). record f { at = target; stack = stack; transfers = transfers })
       (record { room = (frame_sound world state frame callers running sound).0.room; locals = (frame_sound world state frame callers running sound).0.locals; stack = good })) sound)
       sound
-  went_sound (Leaves value) good = sound
+  went_sound (Enters method arguments rest) good = entered_sound world state frame callers running sound bounds method arguments rest good.0 good.1
+  went_sound (Leaves value) good = returned_sound world state frame callers running sound value good
   went_sound (Throws class) good = made_sound world state class sound
   went_sound Fails good = sound
 

@@ -11,11 +11,13 @@ use Rattle.kb_terms.proofs.Values.{Extends-refl, Extends-trans}
 use Rattle.kb_picture.specs.declared.picture.Picture.{Picture}
 use Rattle.kb_picture.specs.Shapes.{HasShape}
 use Rattle.kb_frames.specs.declared.frame.SymFrame.{SymFrame}
-use Rattle.kb_frames.specs.Lent.{begun, transfers_of}
+use Rattle.kb_frames.specs.Calls.{called, left}
+use Rattle.kb_frames.specs.Lent.{begun, carried_on, transfers_of}
 use Rattle.kb_frames.specs.Next.{method_now, offset_now}
 use Rattle.kb_frames.specs.State.{State}
 use Rattle.kb_ways.specs.Simulation.{Keeps, ReadsWhatItSees, AddsComparisons}
-use Rattle.kb_ways.specs.Ways.{Take, Way, Goes, Jumps, Leaves, Throws, Fails, carries_out, went}
+use Rattle.kb_ways.specs.Ways.{Take, Way, Goes, Jumps, Enters, Leaves, Throws, Fails, carries_out, resumes, went}
+use Rattle.kb_ways.proofs.CallLaws.{entered_has, returned_has}
 use Rattle.kb_ways.proofs.GrowLaws.{Grows, if_has, option_has, front_itself, front_of_front, interned_extends}
 
 -- ---- what stays
@@ -78,7 +80,12 @@ module _ (world : World) (bounds : Bounds) (next : ℕ) (state : State) where
       if_has StaysTo (has_room world (method_now state.method state.stage) (length stack)) _ _
       (option_has StaysTo (counted bounds.run (offset_now state.stage) target (transfers_of state.stage)) _ _
       (λ n. carries_stays (λ (frame : SymFrame). record frame { at = target; stack = stack; transfers = n })) same_stays) same_stays
-  went_stays (Leaves value) = same_stays
+  went_stays (Enters method arguments rest) =
+      entered_has StaysTo world bounds state method arguments rest
+      (stays_framed state (carried_on (called world method arguments rest state)) refl refl refl refl refl) same_stays
+  went_stays (Leaves value) =
+      returned_has StaysTo world state value same_stays
+      (λ caller more waits. stays_framed state (carries_out (left state) (resumes world value)).state refl refl refl refl refl) same_stays
   went_stays (Throws class) = record { method = refl; init = refl; picture = refl; terms = interned_extends state.nodes _; conditions = front_itself state.when }
   went_stays Fails = same_stays
 
@@ -112,7 +119,9 @@ went_when world bounds next state (Goes locals stack) =
 went_when world bounds next state (Jumps target stack) =
     if_has (λ (take : Take). take.state.when ≡ state.when) (has_room world (method_now state.method state.stage) (length stack)) _ _
     (option_has (λ (take : Take). take.state.when ≡ state.when) (counted bounds.run (offset_now state.stage) target (transfers_of state.stage)) _ _ (λ n. refl) refl) refl
-went_when world bounds next state (Leaves value) = refl
+went_when world bounds next state (Enters method arguments rest) =
+    entered_has (λ (take : Take). take.state.when ≡ state.when) world bounds state method arguments rest refl refl
+went_when world bounds next state (Leaves value) = returned_has (λ (take : Take). take.state.when ≡ state.when) world state value refl (λ caller more waits. refl) refl
 went_when world bounds next state (Throws class) = refl
 went_when world bounds next state Fails = refl
 

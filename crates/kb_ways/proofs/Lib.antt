@@ -1,5 +1,7 @@
+pub mod AloneLaws
 pub mod AskedLaws
 pub mod BegunLaws
+pub mod CallLaws
 pub mod GoodWays
 pub mod GrowLaws
 pub mod KeepLaws

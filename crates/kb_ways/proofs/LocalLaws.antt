@@ -7,12 +7,12 @@ use Rattle.kb_heap.specs.declared.heap.Value.{Value}
 use Rattle.kb_resolution.specs.Lookup.{only_where}
 use Rattle.kb_semantics.specs.Config.{Setting, Config, Outcome, local_of, max_locals_of}
 use Rattle.kb_semantics.specs.Instructions.{with, sets_local}
-use Rattle.kb_semantics.specs.Ways.{ill_typed, goes_on, jumps, throws, hands_over}
+use Rattle.kb_semantics.specs.Ways.{enters, ill_typed, goes_on, jumps, throws, hands_over}
 use Rattle.kb_picture.specs.Endings.{Reading}
 use Rattle.kb_frames.specs.declared.frame.SymFrame.{SymFrame}
 use Rattle.kb_frames.specs.declared.value.SymValue.{SymValue}
 use Rattle.kb_frames.specs.StandsFor.{FrameStandsFor, value_of_sym, values_of_sym}
-use Rattle.kb_ways.specs.Ways.{Way, Goes, Jumps, Leaves, Throws, Fails}
+use Rattle.kb_ways.specs.Ways.{Way, Goes, Jumps, Enters, Leaves, Throws, Fails}
 
 -- ---- lists
 
@@ -27,6 +27,7 @@ set-map f (y ∷ xs) (suc k) x = ap (λ (l : List _). f y ∷ l) (set-map f xs k
 abbrev pub led_to : Setting → Config → ℕ → Reading → Way → Outcome
 led_to s c next r (Goes locals stack) = goes_on s c next (map (option_map (value_of_sym r)) locals) (values_of_sym r stack) c.heap
 led_to s c next r (Jumps target stack) = jumps s c target (values_of_sym r stack)
+led_to s c next r (Enters method arguments rest) = enters s c method (values_of_sym r arguments) (values_of_sym r rest)
 led_to s c next r (Leaves value) = hands_over s c (option_map (value_of_sym r) value)
 led_to s c next r (Throws class) = throws s c class
 led_to s c next r Fails = ill_typed s c

@@ -1,4 +1,4 @@
--- The frame with which a run goes on once its arguments are read stands for that of the configuration, whatever terms are
+-- The frames with which a run goes on once its arguments are read stand for those of the configuration, whatever terms are
 -- added.
 use Rattle.std.proofs.Common.{◌≡◌, ℕ, zero, suc, ◌-◌, ◌≤◌, List, [], ◌∷◌, ◌++◌, length, length-append, map, replicate, take, slice_get, Option, Some, None, refl, sym, ap, subst, ◌∙◌, arith}
 use Rattle.std.specs.Option.{option_map, option_and_then}
@@ -19,29 +19,23 @@ use Rattle.kb_frames.specs.declared.frame.SymFrame.{SymFrame}
 use Rattle.kb_frames.specs.declared.state.Stage.{Stage}
 use Rattle.kb_frames.specs.declared.state.Stage.TheVariants.{Begins, Runs}
 use Rattle.kb_frames.specs.declared.value.SymValue.{SymValue}
-use Rattle.kb_frames.specs.Lent.{begun_locals, begun_stage}
+use Rattle.kb_frames.specs.Lent.{begun_frame, begun_locals, begun_stage}
 use Rattle.kb_frames.specs.Next.{argument_next}
 use Rattle.kb_frames.specs.StandsFor.{FrameStandsFor, FramesStandFor, IsOfRun, StageStandsFor, beginning_of, value_of_sym}
 use Rattle.kb_frames.specs.State.{State}
 use Rattle.kb_frames.specs.States.{Each, IsFrame, IsLocal, IsStage, IsSymValue}
-use Rattle.kb_ways.specs.Reached.{IsAlone}
-use Rattle.kb_frames.proofs.ItemLaws.{each_append, each_copy, each_mapped, no_items}
+use Rattle.kb_frames.proofs.ItemLaws.{no_items}
+use Rattle.kb_ways.proofs.SoundLaws.{begun_is_frame}
 
--- The frame of a state whose arguments are read.
+-- The frames of a state whose arguments are read.
 pub record Running (world : World) (old : State) (stage : Stage) (r : Reading) (c : Config) : Type 0 where
   pub frame : SymFrame
-  pub is : begun_stage world old stage ≡ Runs frame []
-  pub method : frame.method ≡ old.method
+  pub callers : List SymFrame
+  pub is : begun_stage world old stage ≡ Runs frame callers
   pub sound : IsFrame world old frame
+  pub each : Each (IsFrame world old) callers
   pub stands : FrameStandsFor r frame c.frame
-  pub callers : c.callers ≡ []
-
--- ---- a run that goes on
-
-pub none_standing : (r : Reading) (symbolic : List SymFrame) (frames : List Frame) → symbolic ≡ [] → FramesStandFor r symbolic frames → frames ≡ []
-none_standing r [] [] e stand = refl
-none_standing r [] (frame ∷ frames) e stand = absurd stand
-none_standing r (symbolic ∷ others) frames e stand = absurd cc
+  pub waiting : FramesStandFor r callers c.callers
 
 -- ---- a run that begins
 
@@ -73,7 +67,7 @@ module _ (v : SymValue → Value) where
   other_locals zero = refl
   other_locals (suc n) = ap (λ (l : List (Option Value)). None ∷ l) (other_locals n)
 
-  first_ones : (read : List SymValue) (args : List Value) (limit : ℕ) → map v read ≡ args → first_locals args limit ≡ map (option_map v) (begun_locals read limit)
+  pub first_ones : (read : List SymValue) (args : List Value) (limit : ℕ) → map v read ≡ args → first_locals args limit ≡ map (option_map v) (begun_locals read limit)
   first_ones read args limit e =
       let many : length args ≡ length read = ap length (sym e) ∙ length-map read v in
       let front : map (λ (value : Value). Some value) args ≡ map (option_map v) (map (λ (value : SymValue). Some value) read) =
@@ -84,51 +78,36 @@ module _ (v : SymValue → Value) where
       ∙ ap (λ (l : List (Option Value)). map (option_map v) (map (λ (value : SymValue). Some value) read) ++ l) back
       ∙ sym (map-append (option_map v) (map (λ (value : SymValue). Some value) read) (replicate (limit - length read) None))
 
--- the frame with which a run begins
-abbrev first_sym : World → State → List SymValue → SymFrame
-first_sym world old read = record { method = old.method; at = 0; locals = begun_locals read (max_locals_of world old.method); stack = []; transfers = 0 }
-
-first_sound : (world : World) (old : State) (read : List SymValue) → Each (IsSymValue world old) read → IsFrame world old (first_sym world old read)
-first_sound world old read each =
-    let limit = max_locals_of world old.method in
-    let front : List (Option SymValue) = map (λ (value : SymValue). Some value) read in
-    let back : List (Option SymValue) = replicate (limit - length read) None in
-    record {
-      room = omega (arith, length-append front back, length-map read (λ (value : SymValue). Some value), length-replicate {A = Option SymValue} (limit - length read) None);
-      locals = each_append (IsLocal world old) front back (each_mapped (IsSymValue world old) (IsLocal world old) (λ (value : SymValue). Some value) read (λ x is. is) each)
-          (each_copy (IsLocal world old) (limit - length read) None tt);
-      stack = no_items (IsSymValue world old);
-    }
-
 -- ---- both
 
 module _ (s : Setting) (old : State) (input : Input) (c : Config) (r : Reading) (correct : IsTypeCorrect s.world old.method input) (run : IsOfRun s old input c) where
-  pub running : (stage : Stage) → IsStage s.world old stage → IsAlone old.method stage → StageStandsFor r input stage c → argument_next s.world old.method stage ≡ None
-      → Running s.world old stage r c
-  running (Begins read) sound alone stands none =
+  pub running : (stage : Stage) → IsStage s.world old stage → StageStandsFor r input stage c → argument_next s.world old.method stage ≡ None → Running s.world old stage r c
+  running (Begins read) sound stands none =
       let start : Config = beginning_of s.world old input in
       let at_start : config_at s 0 start ≡ Some c = subst (λ (n : ℕ). config_at s n start ≡ Some c) sound.carried run in
       let same : start ≡ c = cc in
       let whole : take (length read) input.args ≡ input.args = take_all (length read) input.args (all_read s.world old.method input read correct none) in
       record {
-        frame = first_sym s.world old read;
+        frame = begun_frame s.world old.method read;
+        callers = [];
         is = refl;
-        method = refl;
-        sound = first_sound s.world old read sound.values;
-        stands = subst (λ (x : Config). FrameStandsFor r (first_sym s.world old read) x.frame) same (record {
+        sound = begun_is_frame s.world old old.method read sound.values;
+        each = no_items (IsFrame s.world old);
+        stands = subst (λ (x : Config). FrameStandsFor r (begun_frame s.world old.method read) x.frame) same (record {
           method = refl;
           at = refl;
           locals = first_ones (value_of_sym r) read input.args (max_locals_of s.world old.method) (stands.1 ∙ whole);
           stack = refl;
           transfers = refl;
         });
-        callers = ap (λ (x : Config). x.callers) (sym same);
+        waiting = subst (λ (x : Config). FramesStandFor r [] x.callers) same tt;
       }
-  running (Runs frame callers) sound alone stands none = record {
+  running (Runs frame callers) sound stands none = record {
     frame = frame;
-    is = ap (Runs frame) alone.1;
-    method = alone.0;
+    callers = callers;
+    is = refl;
     sound = sound.0;
+    each = sound.1;
     stands = stands.0;
-    callers = none_standing r callers c.callers alone.1 stands.1;
+    waiting = stands.1;
   }

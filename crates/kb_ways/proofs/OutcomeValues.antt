@@ -25,11 +25,11 @@ use Rattle.kb_frames.specs.declared.value.Cell.{Cell}
 use Rattle.kb_frames.specs.declared.value.Cell.TheVariants.{Untouched}
 use Rattle.kb_frames.specs.declared.value.SymValue.{SymValue}
 use Rattle.kb_frames.specs.declared.value.SymValue.TheVariants.{Int, Null, Obj, Literal, New, Loc}
-use Rattle.kb_frames.specs.StandsFor.{FrameStandsFor, HeapStandsFor, made_at, present_value, reading_at, value_of_sym, values_of_sym}
+use Rattle.kb_frames.specs.StandsFor.{FrameStandsFor, FramesStandFor, HeapStandsFor, made_at, present_value, reading_at, value_of_sym, values_of_sym}
 use Rattle.kb_frames.specs.State.{State, cell_at}
 use Rattle.kb_frames.specs.States.{AreCells, Each, IsCell, IsFrame, IsMade, IsSymValue}
 use Rattle.kb_frames.proofs.MoreLaws.{cells_sound}
-use Rattle.kb_frames.proofs.AlikeLaws.{cell_alike, frame_alike, objects_alike, values_alike}
+use Rattle.kb_frames.proofs.AlikeLaws.{cell_alike, frame_alike, frames_alike, objects_alike, values_alike}
 use Rattle.kb_frames.proofs.ItemLaws.{each_rest}
 
 -- a later reading has the same places, and gives the terms of a pool the same values
@@ -53,6 +53,9 @@ module _ (world : World) (state : State) (r later : Reading) (is : IsLater r lat
 
   pub frame_later : (symbolic : SymFrame) (frame : Frame) → IsFrame world state symbolic → FrameStandsFor r symbolic frame → FrameStandsFor later symbolic frame
   frame_later = frame_alike world state r later value_later
+
+  pub frames_later : (symbolic : List SymFrame) (frames : List Frame) → Each (IsFrame world state) symbolic → FramesStandFor r symbolic frames → FramesStandFor later symbolic frames
+  frames_later = frames_alike world state r later value_later
 
   pub objects_later : (made : List SymObject) → Each (IsMade world state) made → map (made_at later) made ≡ map (made_at r) made
   objects_later = objects_alike world state r later value_later

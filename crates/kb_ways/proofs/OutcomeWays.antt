@@ -9,7 +9,7 @@ use Rattle.kb_class.specs.declared.ids.MethodId.{MethodId}
 use Rattle.kb_class.specs.declared.members.MethodCode.{MethodCode}
 use Rattle.kb_class.specs.Naming.{Has}
 use Rattle.kb_code.specs.declared.listing.Handler.{Handler}
-use Rattle.kb_heap.specs.declared.bounds.Bound.TheVariants.{Loops}
+use Rattle.kb_heap.specs.declared.bounds.Bound.TheVariants.{Loops, Depth}
 use Rattle.kb_heap.specs.declared.bounds.Bounds.{Bounds}
 use Rattle.kb_heap.specs.declared.ending.Ending.TheVariants.{Returned as RunReturned, Threw as RunThrew, IllTyped as RunIllTyped}
 use Rattle.kb_heap.specs.declared.heap.Heap.{Heap}
@@ -24,11 +24,11 @@ use Rattle.kb_names.specs.declared.types.ExactType.{ExactType}
 use Rattle.kb_names.specs.declared.types.ExactType.TheVariants as exact
 use Rattle.kb_names.specs.declared.types.JType.{JType}
 use Rattle.kb_names.specs.declared.types.JType.TheVariants as types
-use Rattle.kb_semantics.specs.Config.{Setting, Config, Frame, Outcome, class_number, code_of, has_room, place_in_code, Goes as StepGoes, Ends as StepEnds}
+use Rattle.kb_semantics.specs.Config.{Setting, Config, Frame, Outcome, behind, class_number, code_of, first_frame, has_room, max_locals_of, place_in_code, Goes as StepGoes, Ends as StepEnds}
 use Rattle.kb_semantics.specs.Looks.{Slot, stores}
 use Rattle.kb_semantics.specs.Step.{config_at, first_heap, next_config, step}
 use Rattle.kb_semantics.specs.Values.{default_of, new_object, slots_of_class}
-use Rattle.kb_semantics.specs.Ways.{counted, goes_on, goes_to, handler_among, handler_at, hands_over, hands_to, lands, nearest_handler, past, standpoint, throws, throws_in, ill_typed as ill_typed_step, carries_out as carries_out_step}
+use Rattle.kb_semantics.specs.Ways.{counted, enters, goes_on, goes_to, handler_among, handler_at, hands_over, hands_to, lands, nearest_handler, past, pushed, standpoint, throws, throws_in, ill_typed as ill_typed_step, carries_out as carries_out_step}
 use Rattle.kb_terms.specs.declared.node.TermId.{TermId}
 use Rattle.kb_terms.specs.declared.node.Node.{Node}
 use Rattle.kb_terms.specs.declared.node.Node.TheVariants.{Const}
@@ -53,17 +53,22 @@ use Rattle.kb_frames.specs.declared.value.Cell.{Cell}
 use Rattle.kb_frames.specs.declared.value.Outcome.TheVariants.{Goes as OutcomeGoes, Ends, Cut}
 use Rattle.kb_frames.specs.declared.value.SymValue.{SymValue}
 use Rattle.kb_frames.specs.declared.value.SymValue.TheVariants.{Int}
+use Rattle.kb_frames.specs.Calls.{back_to, called, left}
 use Rattle.kb_frames.specs.Cuts.{setting_of}
+use Rattle.kb_frames.specs.Lent.{begun_frame, carried_on}
 use Rattle.kb_frames.specs.Making.{default_sym, new_sym_object, with_made}
 use Rattle.kb_frames.specs.StandsFor.{FrameStandsFor, FramesStandFor, HeapStandsFor, IsInstanceOf, IsKept, IsLike, StandsFor, beginning_of, made_at, out_of, reading_at, value_of_sym, values_of_sym, written_by}
 use Rattle.kb_frames.specs.State.{State, cell_at}
-use Rattle.kb_ways.specs.Reached.{HasNoHandlers}
+use Rattle.kb_frames.specs.States.{Each}
+use Rattle.kb_ways.specs.Reached.{HasNoHandlers, HaveNoHandlers}
 use Rattle.kb_ways.specs.Simulation.{IsOutcome}
-use Rattle.kb_ways.specs.Ways.{Take, Way, Goes, Jumps, Leaves, Throws, Fails, carries_out, ill_typed, went}
+use Rattle.kb_ways.specs.Ways.{Take, Way, Goes, Jumps, Enters, Leaves, Throws, Fails, carries_out, entered, ill_typed, resumes, returned, returned_to, went, with_result}
 use Rattle.kb_ways.proofs.GrowLaws.{interned_extends}
 use Rattle.kb_ways.proofs.OneInstances.{same_variables}
 use Rattle.kb_ways.proofs.LocalLaws.{led_to}
+use Rattle.kb_frames.proofs.ItemLaws.{each_cons, each_rest}
 use Rattle.kb_frames.proofs.MoreLaws.{cells_sound}
+use Rattle.kb_ways.proofs.OutcomeStands.{first_ones}
 use Rattle.kb_ways.proofs.OutcomeValues.{IsLater, cell_later, heap_later, objects_later, reading_int, reading_later}
 use Rattle.kb_ways.proofs.PastLaws.{runs_past}
 use Rattle.kb_ways.proofs.SoundLaws.{Sound}
@@ -125,6 +130,15 @@ defaults_are r term (slot ∷ slots) e =
     one (types.Array component) = refl
     one _ = sym e
 
+-- ---- frames
+
+-- the frames that stand for others are as many
+as_many_frames : (r : Reading) (symbolic : List SymFrame) (frames : List Frame) → FramesStandFor r symbolic frames → length frames ≡ length symbolic
+as_many_frames r [] [] stand = refl
+as_many_frames r [] (frame ∷ frames) stand = absurd stand
+as_many_frames r (symbolic ∷ others) [] stand = absurd stand
+as_many_frames r (symbolic ∷ others) (frame ∷ frames) stand = ap suc (as_many_frames r others frames stand.1)
+
 -- ---- no handler
 
 no_handler : (world : World) (method : MethodId) (at : ℕ) (kind : ExactType) → HasNoHandlers world method → handler_at world method at kind ≡ None
@@ -133,11 +147,24 @@ no_handler world method at kind none = go (code_of world method) none where
   go None e = refl
   go (Some code) e = ap (λ (hs : List Handler). handler_among world (class_number world method) at kind hs) e
 
+-- nor is there one on the way from these frames
+no_handlers : (world : World) (kind : ExactType) (r : Reading) (symbolic : List SymFrame) (frames : List Frame) → FramesStandFor r symbolic frames
+    → Each (λ (frame : SymFrame). HasNoHandlers world frame.method) symbolic → nearest_handler world kind (map standpoint frames) ≡ None
+unfolding nearest_handler
+no_handlers world kind r [] [] stand none = refl
+no_handlers world kind r [] (frame ∷ frames) stand none = absurd stand
+no_handlers world kind r (symbolic ∷ others) [] stand none = absurd stand
+no_handlers world kind r (symbolic ∷ others) (frame ∷ frames) stand none =
+    ap (λ (h : Option ℕ). option_map_or (λ target. Some (0, target)) h (option_map (λ (found : ℕ × ℕ). (suc found.0, found.1)) (nearest_handler world kind (map standpoint frames))))
+    (ap (λ (m : MethodId). handler_at world m frame.at kind) stand.0.method ∙ no_handler world symbolic.method frame.at kind (none 0 symbolic refl))
+    ∙ ap (option_map (λ (found : ℕ × ℕ). (suc found.0, found.1)))
+    (no_handlers world kind r others frames stand.1 (each_rest (λ (frame : SymFrame). HasNoHandlers world frame.method) symbolic others none))
+
 -- ---- ways
 
 -- the state behind an instruction that was carried out, which may have written cells and objects
-module _ (world : World) (bounds : Bounds) (old : State) (input : Input) (c : Config) (stands : StandsFor (setting_of world bounds) old input c) (callers : c.callers ≡ [])
-    (nodes : List Node) (when : List (TermId × Bool)) (symbolic : SymFrame) (behind : Frame) (cells : List (List Cell)) (made : List SymObject) (heap : Heap) where
+module _ (world : World) (bounds : Bounds) (old : State) (input : Input) (c : Config) (stands : StandsFor (setting_of world bounds) old input c)
+    (nodes : List Node) (when : List (TermId × Bool)) (symbolic : SymFrame) (others : List SymFrame) (behind : Frame) (callers : List Frame) (cells : List (List Cell)) (made : List SymObject) (heap : Heap) where
   abbrev s' : Setting
   s' = setting_of world bounds
 
@@ -145,13 +172,13 @@ module _ (world : World) (bounds : Bounds) (old : State) (input : Input) (c : Co
   start = beginning_of world old input
 
   abbrev written_state : State
-  written_state = record old { stage = Runs symbolic []; nodes = nodes; when = when; carried = old.carried + 1; cells = cells; made = made }
+  written_state = record old { stage = Runs symbolic others; nodes = nodes; when = when; carried = old.carried + 1; cells = cells; made = made }
 
   abbrev behind_r : Reading
   behind_r = reading_at world written_state input stands.instance_of.shape.places
 
   abbrev next_one : Config
-  next_one = record { frame = behind; callers = c.callers; heap = heap; inputs = c.inputs; carried = c.carried + 1 }
+  next_one = record { frame = behind; callers = callers; heap = heap; inputs = c.inputs; carried = c.carried + 1 }
 
   written_more : written_by s' (old.carried + 1) start ≡ written_by s' old.carried start ++ stores s' c
   written_more =
@@ -163,10 +190,10 @@ module _ (world : World) (bounds : Bounds) (old : State) (input : Input) (c : Co
       let count : old.carried + 1 ≡ suc old.carried = omega arith in
       ap (λ (n : ℕ). config_at s' n start) count ∙ config_more old.carried s' start c next_one stands.run e
 
-  pub writes_stand : FrameStandsFor behind_r symbolic behind → HeapStandsFor behind_r written_state (first_heap world input.heap) heap
+  pub writes_stand : FrameStandsFor behind_r symbolic behind → FramesStandFor behind_r others callers → HeapStandsFor behind_r written_state (first_heap world input.heap) heap
       → ((slot : Slot) → slot.object < length input.heap.objects → Has (written_by s' old.carried start ++ stores s' c) slot ↔ IsKept behind_r written_state slot)
       → step s' c ≡ StepGoes next_one → (i : IsInstanceOf written_state input) → IsOutcome world bounds c written_state input i OutcomeGoes
-  writes_stand framed stood kept e i = (
+  writes_stand framed waiting stood kept e i = (
     next_one,
     e,
     record {
@@ -175,7 +202,7 @@ module _ (world : World) (bounds : Bounds) (old : State) (input : Input) (c : Co
         shape = stands.instance_of.shape;
         conditions = subst (λ (vs : List ℤ). AreMetInPool nodes vs when) (sym (same_variables old.picture input stands.instance_of.shape old.picture refl i.shape)) i.conditions;
       };
-      stage = (framed, subst (FramesStandFor behind_r []) (sym callers) tt);
+      stage = (framed, waiting);
       heap = stood;
       written = λ slot inside. (
         (λ has. (kept slot inside).0 (subst (λ (l : List Slot). Has l slot) written_more has)),
@@ -185,9 +212,10 @@ module _ (world : World) (bounds : Bounds) (old : State) (input : Input) (c : Co
   )
 
 module _ (world : World) (bounds : Bounds) (old : State) (sound : Sound world old) (input : Input) (c : Config) (stands : StandsFor (setting_of world bounds) old input c)
-    (frame : SymFrame) (method_is : frame.method ≡ old.method) (callers : c.callers ≡ []) (next : ℕ)
+    (frame : SymFrame) (callers : List SymFrame) (unhandled : HaveNoHandlers world old.method (Runs frame callers)) (next : ℕ)
     (nodes : List Node) (more : Extends old.nodes nodes) (when : List (TermId × Bool))
-    (framed : FrameStandsFor (reading_at world (record old { stage = Runs frame []; nodes = nodes; when = when }) input stands.instance_of.shape.places) frame c.frame) where
+    (framed : FrameStandsFor (reading_at world (record old { stage = Runs frame callers; nodes = nodes; when = when }) input stands.instance_of.shape.places) frame c.frame)
+    (waiting : FramesStandFor (reading_at world (record old { stage = Runs frame callers; nodes = nodes; when = when }) input stands.instance_of.shape.places) callers c.callers) where
   abbrev s : Setting
   s = setting_of world bounds
 
@@ -195,7 +223,7 @@ module _ (world : World) (bounds : Bounds) (old : State) (sound : Sound world ol
   places = stands.instance_of.shape.places
 
   abbrev state : State
-  state = record old { stage = Runs frame []; nodes = nodes; when = when }
+  state = record old { stage = Runs frame callers; nodes = nodes; when = when }
 
   abbrev first : Heap
   first = first_heap world input.heap
@@ -231,18 +259,6 @@ module _ (world : World) (bounds : Bounds) (old : State) (sound : Sound world ol
       ends_so (IllTyped (place_in_code world frame.method frame.at)) i
       (e ∙ ap (λ (m : MethodId). ill_typed_at m c.frame.at) framed.method ∙ ap (λ (at : ℕ). ill_typed_at frame.method at) framed.at)
 
-  leaves_is : (value : Option SymValue) → step s c ≡ hands_over s c (option_map (value_of_sym r) value) → (i : IsInstanceOf state input)
-      → IsOutcome world bounds c state input i (Ends (Returned (option_map out_of value)))
-  unfolding hands_over
-  leaves_is value e i =
-      ends_so (Returned (option_map out_of value)) i
-      (e ∙ ap (λ (fs : List Frame). hands_to s c fs (option_map (value_of_sym r) value)) callers
-      ∙ ap (λ (v : Option Value). StepEnds (record { ending = RunReturned v; heap = c.heap })) (same value))
-    where
-      same : (v : Option SymValue) → option_map (value_of_sym r) v ≡ option_map (out_value r) (option_map out_of v)
-      same None = refl
-      same (Some v) = refl
-
   -- ---- it throws
 
   abbrev inputs : ℕ
@@ -266,7 +282,7 @@ module _ (world : World) (bounds : Bounds) (old : State) (sound : Sound world ol
     each : (i : ℕ) → i < inputs + literals → i < length c.heap.objects
     each i below = inside_like c.heap.objects first.objects i (omega (arith, below, first_length)) (by_order i below (nat_lt i inputs) refl)
 
-  heap_length : length c.heap.objects ≡ inputs + literals + length old.made
+  pub heap_length : length c.heap.objects ≡ inputs + literals + length old.made
   unfolding reading_at
   heap_length =
       let many = ap length stands.heap.made in
@@ -279,10 +295,10 @@ module _ (world : World) (bounds : Bounds) (old : State) (sound : Sound world ol
     abbrev made : State
     made = with_made world state class
 
-    abbrev r' : Reading
+    abbrev pub r' : Reading
     r' = reading_at world made input places
 
-    abbrev new_heap : Heap
+    abbrev pub new_heap : Heap
     new_heap = with_object c.heap (new_object world class)
 
     made_later : IsLater (reading_at world old input places) r' old.nodes
@@ -294,13 +310,13 @@ module _ (world : World) (bounds : Bounds) (old : State) (sound : Sound world ol
     object_is : new_object world class ≡ made_at r' (new_sym_object world class nought.1)
     object_is = ap (λ (vs : List Value). record { kind = exact.Class class; values = vs }) (defaults_are r' nought.1 (slots_of_class world class) zero_value)
 
-    same_object : (object : ℕ) → object < inputs + literals → object_at new_heap object ≡ object_at c.heap object
+    pub same_object : (object : ℕ) → object < inputs + literals → object_at new_heap object ≡ object_at c.heap object
     same_object object below = slice_get-append-left c.heap.objects (new_object world class ∷ []) object (omega (arith, below, heap_there))
 
     heap_stands : HeapStandsFor (reading_at world old input places) old first c.heap
     heap_stands = stands.heap
 
-    made_heap : HeapStandsFor r' made first new_heap
+    pub made_heap : HeapStandsFor r' made first new_heap
     unfolding reading_at
     made_heap = record {
       made =
@@ -320,12 +336,11 @@ module _ (world : World) (bounds : Bounds) (old : State) (sound : Sound world ol
     }
 
     throws_step : throws s c class ≡ StepEnds (record { ending = ending_at r' (Threw (outs.New (length old.made))); heap = new_heap })
-    unfolding throws throws_in nearest_handler reading_at
+    unfolding throws throws_in reading_at
     throws_step =
         let none : nearest_handler world (exact.Class class) (map standpoint (c.frame ∷ c.callers)) ≡ None =
-        ap (λ (fs : List Frame). nearest_handler world (exact.Class class) (map standpoint (c.frame ∷ fs))) callers
-        ∙ ap (λ (h : Option ℕ). option_map_or (λ target. Some (0, target)) h (option_map (λ (found : ℕ × ℕ). (suc found.0, found.1)) (nearest_handler world (exact.Class class) [])))
-        (ap (λ (m : MethodId). handler_at world m c.frame.at (exact.Class class)) (framed.method ∙ method_is) ∙ no_handler world old.method c.frame.at (exact.Class class) sound.unhandled) in
+        no_handlers world (exact.Class class) r (frame ∷ callers) (c.frame ∷ c.callers) (framed, waiting)
+        (each_cons (λ (f : SymFrame). HasNoHandlers world f.method) frame callers unhandled.0 unhandled.1) in
         ap (λ (h : Option (ℕ × ℕ)). option_map_or (λ (found : ℕ × ℕ). lands s c new_heap (length c.heap.objects) found.1 (drop found.0 (c.frame ∷ c.callers))) h
         (StepEnds (record { ending = RunThrew (length c.heap.objects); heap = new_heap }))) none
         ∙ ap (λ (n : ℕ). StepEnds (record { ending = RunThrew n; heap = new_heap })) heap_length
@@ -343,16 +358,16 @@ module _ (world : World) (bounds : Bounds) (old : State) (sound : Sound world ol
 
   -- where nothing is written
   module _ (plain : stores s c ≡ []) where
-    abbrev after : SymFrame → State
-    after symbolic = record old { stage = Runs symbolic []; nodes = nodes; when = when; carried = old.carried + 1 }
+    abbrev after : SymFrame → List SymFrame → State
+    after symbolic others = record old { stage = Runs symbolic others; nodes = nodes; when = when; carried = old.carried + 1 }
 
-    goes_stands : (symbolic : SymFrame) (behind : Frame) → FrameStandsFor r symbolic behind
-        → step s c ≡ StepGoes (record { frame = behind; callers = c.callers; heap = c.heap; inputs = c.inputs; carried = c.carried + 1 })
-        → (i : IsInstanceOf (after symbolic) input) → IsOutcome world bounds c (after symbolic) input i OutcomeGoes
+    goes_stands : (symbolic : SymFrame) (others : List SymFrame) (behind : Frame) (frames : List Frame) → FrameStandsFor r symbolic behind → FramesStandFor r others frames
+        → step s c ≡ StepGoes (record { frame = behind; callers = frames; heap = c.heap; inputs = c.inputs; carried = c.carried + 1 })
+        → (i : IsInstanceOf (after symbolic others) input) → IsOutcome world bounds c (after symbolic others) input i OutcomeGoes
     unfolding reading_at
-    goes_stands symbolic behind framed e i =
-        writes_stand world bounds old input c stands callers nodes when symbolic behind old.cells old.made c.heap framed
-        (heap_later world old (after symbolic) (reading_at world old input places) r first c.heap later sound.cells sound.made refl refl stands.heap)
+    goes_stands symbolic others behind frames framed waiting e i =
+        writes_stand world bounds old input c stands nodes when symbolic others behind frames old.cells old.made c.heap framed waiting
+        (heap_later world old (after symbolic others) (reading_at world old input places) r first c.heap later sound.cells sound.made refl refl stands.heap)
         (λ slot inside. (
           (λ has. (let k = (stands.written slot inside).0 (subst (λ (l : List Slot). Has l slot) same has) in
               record { object = k.object; place = k.place; value = k.value; cell = k.cell })),
@@ -375,8 +390,8 @@ module _ (world : World) (bounds : Bounds) (old : State) (sound : Sound world ol
         go : (b : Bool) → step s c ≡ (if b then carries_out_step c (record c.frame { at = next; locals = map (option_map (value_of_sym r)) locals; stack = values_of_sym r stack }) c.callers c.heap else ill_typed_step s c)
             → Follows (if b then carries_out state (λ (f : SymFrame). record f { at = next; locals = locals; stack = stack }) else ill_typed world state)
         go true e =
-            goes_stands (record frame { at = next; locals = locals; stack = stack }) (record c.frame { at = next; locals = map (option_map (value_of_sym r)) locals; stack = values_of_sym r stack })
-            (record { method = framed.method; at = refl; locals = refl; stack = refl; transfers = framed.transfers }) e
+            goes_stands (record frame { at = next; locals = locals; stack = stack }) callers (record c.frame { at = next; locals = map (option_map (value_of_sym r)) locals; stack = values_of_sym r stack }) c.callers
+            (record { method = framed.method; at = refl; locals = refl; stack = refl; transfers = framed.transfers }) waiting e
         go false e = ill_typed_is e
 
     -- where the transfers are counted
@@ -385,8 +400,8 @@ module _ (world : World) (bounds : Bounds) (old : State) (sound : Sound world ol
         → Follows (option_map_or (λ transfers. carries_out state (λ (f : SymFrame). record f { at = target; stack = stack; transfers = transfers })) n (record { state = state; outcome = Cut Loops }))
     counted_is target stack None e = λ i. runs_past s old input c Loops stands e
     counted_is target stack (Some n) e =
-        goes_stands (record frame { at = target; stack = stack; transfers = n }) (record c.frame { at = target; stack = values_of_sym r stack; transfers = n })
-        (record { method = framed.method; at = refl; locals = framed.locals; stack = refl; transfers = refl }) e
+        goes_stands (record frame { at = target; stack = stack; transfers = n }) callers (record c.frame { at = target; stack = values_of_sym r stack; transfers = n }) c.callers
+        (record { method = framed.method; at = refl; locals = framed.locals; stack = refl; transfers = refl }) waiting e
 
     counted_same : (target : ℕ) → counted bounds.run c.frame.at target c.frame.transfers ≡ counted bounds.run frame.at target frame.transfers
     counted_same target = ap (λ (at : ℕ). counted bounds.run at target c.frame.transfers) framed.at ∙ ap (λ (n : ℕ). counted bounds.run frame.at target n) framed.transfers
@@ -404,9 +419,85 @@ module _ (world : World) (bounds : Bounds) (old : State) (sound : Sound world ol
             (e ∙ ap (λ (n : Option ℕ). option_map_or (λ transfers. carries_out_step c (record c.frame { at = target; stack = values_of_sym r stack; transfers = transfers }) c.callers c.heap) n (past c Loops)) (counted_same target))
         go false e = ill_typed_is e
 
+    -- ---- a method is entered
+
+    as_deep : length c.callers ≡ length callers
+    as_deep = as_many_frames r callers c.callers waiting
+
+    -- Where the state stands for c, a method is entered as the machine enters it.
+    pub entered_is : (method : MethodId) (arguments rest : List SymValue) → step s c ≡ enters s c method (values_of_sym r arguments) (values_of_sym r rest)
+        → Follows (entered world bounds state method arguments rest)
+    unfolding enters entered
+    entered_is method arguments rest e =
+        go (nat_lt (suc (length callers)) bounds.run.depth) (e ∙ ap (λ (n : ℕ). if nat_lt (suc n) bounds.run.depth then begins else past c Depth) as_deep)
+      where
+        begins : Outcome
+        begins = carries_out_step c (first_frame world method (values_of_sym r arguments)) (record c.frame { stack = values_of_sym r rest } ∷ c.callers) c.heap
+
+        go : (b : Bool) → step s c ≡ (if b then begins else past c Depth)
+            → Follows (if b then record { state = carried_on (called world method arguments rest state); outcome = OutcomeGoes } else record { state = state; outcome = Cut Depth })
+        go true e =
+            goes_stands (begun_frame world method arguments) (record frame { stack = rest } ∷ callers)
+            (first_frame world method (values_of_sym r arguments)) (record c.frame { stack = values_of_sym r rest } ∷ c.callers)
+            (record { method = refl; at = refl; locals = first_ones (value_of_sym r) arguments (values_of_sym r arguments) (max_locals_of world method) refl; stack = refl; transfers = refl })
+            (record { method = framed.method; at = framed.at; locals = framed.locals; stack = refl; transfers = framed.transfers }, waiting) e
+        go false e = λ i. runs_past s old input c Depth stands e
+
+    -- ---- the method returns
+
+    result_same : (value : Option SymValue) (stack : List SymValue) → pushed (option_map (value_of_sym r) value) (values_of_sym r stack) ≡ values_of_sym r (with_result value stack)
+    result_same None stack = refl
+    result_same (Some value) stack = refl
+
+    out_same : (value : Option SymValue) → option_map (value_of_sym r) value ≡ option_map (out_value r) (option_map out_of value)
+    out_same None = refl
+    out_same (Some value) = refl
+
+    abbrev resumed : Frame → Option SymValue → Frame
+    resumed to value = record to { at = behind world to.method to.at; stack = pushed (option_map (value_of_sym r) value) to.stack }
+
+    resumed_stands : (value : Option SymValue) (caller : SymFrame) (to : Frame) → FrameStandsFor r caller to → FrameStandsFor r (resumes world value caller) (resumed to value)
+    resumed_stands value caller to stand = record {
+      method = stand.method;
+      at = ap (λ (m : MethodId). behind world m to.at) stand.method ∙ ap (behind world caller.method) stand.at;
+      locals = stand.locals;
+      stack = ap (pushed (option_map (value_of_sym r) value)) stand.stack ∙ result_same value caller.stack;
+      transfers = stand.transfers;
+    }
+
+    room_there : (value : Option SymValue) (caller : SymFrame) (to : Frame) → FrameStandsFor r caller to
+        → has_room world to.method (length (pushed (option_map (value_of_sym r) value) to.stack)) ≡ has_room world caller.method (length (with_result value caller.stack))
+    room_there value caller to stand =
+        ap (λ (m : MethodId). has_room world m (length (pushed (option_map (value_of_sym r) value) to.stack))) stand.method
+        ∙ ap (λ (vs : List Value). has_room world caller.method (length vs)) (ap (pushed (option_map (value_of_sym r) value)) stand.stack ∙ result_same value caller.stack)
+        ∙ ap (has_room world caller.method) (length-map (with_result value caller.stack) (value_of_sym r))
+
+    -- Where the state stands for c, a method returns as the machine returns from it.
+    pub returned_is : (value : Option SymValue) → step s c ≡ hands_over s c (option_map (value_of_sym r) value) → Follows (returned world state value)
+    unfolding hands_over returned
+    returned_is value e = go callers refl c.callers refl waiting e where
+      go : (symbolic : List SymFrame) → callers ≡ symbolic → (frames : List Frame) → c.callers ≡ frames → FramesStandFor r symbolic frames
+          → step s c ≡ hands_to s c frames (option_map (value_of_sym r) value) → Follows (returned_to world state symbolic value)
+      go [] is [] are stand e = λ i. ends_so (Returned (option_map out_of value)) i (e ∙ ap (λ (v : Option Value). StepEnds (record { ending = RunReturned v; heap = c.heap })) (out_same value))
+      go [] is (to ∷ frames) are stand e = absurd stand
+      go (caller ∷ more) is [] are stand e = absurd stand
+      go (caller ∷ more) is (to ∷ frames) are stand e =
+          by_room (has_room world caller.method (length (with_result value caller.stack)))
+          (e ∙ ap (λ (b : Bool). if b then carries_out_step c (resumed to value) frames c.heap else ill_typed_step s c) (room_there value caller to stand.0))
+        where
+          by_room : (b : Bool) → step s c ≡ (if b then carries_out_step c (resumed to value) frames c.heap else ill_typed_step s c)
+              → Follows (if b then carries_out (left state) (resumes world value) else ill_typed world state)
+          by_room true e =
+              subst (λ (cs : List SymFrame). Follows (carries_out (record state { stage = back_to frame cs }) (resumes world value))) (sym is)
+              (goes_stands (resumes world value caller) more (resumed to value) frames (resumed_stands value caller to stand.0) stand.1 e)
+          by_room false e = ill_typed_is e
+
+    -- ---- all of them
+
     pub went_is : (way : Way) → step s c ≡ led_to s c next r way → Follows (went world bounds next state way)
     went_is (Goes locals stack) e = goes_is locals stack e
     went_is (Jumps target stack) e = jumps_is target stack e
-    went_is (Leaves value) e = leaves_is value e
+    went_is (Enters method arguments rest) e = entered_is method arguments rest e
+    went_is (Leaves value) e = returned_is value e
     went_is (Throws class) e = throws_is class e
     went_is Fails e = ill_typed_is e

@@ -11,10 +11,12 @@ use Rattle.std.proofs.lemmas.Option.{slice_get_within, slice_get-map}
 use Rattle.kb_blast.specs.Query.{AreConditions, is_comparison, kind_from, kinds_of, node_passes}
 use Rattle.kb_blast.proofs.Listed.{is-operation}
 use Rattle.kb_class.specs.Naming.{Has}
+use Rattle.kb_class.specs.declared.ids.MethodId.{MethodId}
 use Rattle.kb_class.specs.declared.members.MethodInfo.{MethodInfo}
 use Rattle.kb_class.specs.Members.{is_static}
 use Rattle.kb_classes.proofs.Places.{get_pushed}
 use Rattle.kb_classes.specs.World.{World}
+use Rattle.kb_heap.specs.declared.bounds.Bounds.{Bounds}
 use Rattle.kb_classes.specs.declared.slots.FieldSlot.{FieldSlot}
 use Rattle.kb_names.specs.declared.types.JType.{JType}
 use Rattle.kb_semantics.specs.Config.{class_name, info_of, max_locals_of}
@@ -51,7 +53,8 @@ use Rattle.kb_frames.specs.declared.value.Cell.TheVariants.{Untouched, Read, Wri
 use Rattle.kb_frames.specs.declared.value.SymValue.{SymValue}
 use Rattle.kb_frames.specs.declared.value.SymValue.TheVariants.{Int, Null, Obj, Literal, New, Loc}
 use Rattle.kb_frames.specs.FirstReads.{with_read, first_int}
-use Rattle.kb_frames.specs.Lent.{begun, begun_locals, begun_stage, read_count, with_frame, with_nodes}
+use Rattle.kb_frames.specs.Calls.{called_stage, left_stage}
+use Rattle.kb_frames.specs.Lent.{begun, begun_frame, begun_stage, callers_of, read_count, with_frame, with_nodes}
 use Rattle.kb_frames.specs.Making.{default_sym, new_sym_object, with_made}
 use Rattle.kb_frames.specs.Next.{argument_next, instruction_next, is_int, is_int_next, method_now, next_is_int}
 use Rattle.kb_frames.specs.State.{State}
@@ -59,11 +62,12 @@ use Rattle.kb_frames.specs.States.{AreCells, Each, IsBeginning, IsCell, IsFrame,
 use Rattle.kb_frames.specs.Truths.{truth_in}
 use Rattle.kb_ways.specs.declared.condition.Condition.{Condition}
 use Rattle.kb_ways.specs.Asked.{all_asked, asked, interned_condition, interned_side}
-use Rattle.kb_ways.specs.Reached.{HasNoHandlers, HasNoneLeftOut, HasReadReceiver, IsAlone, IsReached, SwitchesRise}
-use Rattle.kb_ways.specs.Ways.{carries_out}
+use Rattle.kb_ways.specs.Reached.{HasNoneLeftOut, HasReadReceiver, IsReached, SwitchesRise}
+use Rattle.kb_ways.specs.Ways.{Take, carries_out, entered, resumes, returned, with_result}
 use Rattle.kb_ways.proofs.AskedLaws.{interned_is_term, interned_node, later_node, no_constant, not_folded}
+use Rattle.kb_ways.proofs.CallLaws.{entered_has, returned_has}
 use Rattle.kb_ways.proofs.GrowLaws.{GoesOn, Grows, all_asked_grows, condition_goes_on, interned_goes_on}
-use Rattle.kb_frames.proofs.ItemLaws.{each_append, each_cons, each_copy, each_map, each_mapped, no_items, none_passes}
+use Rattle.kb_frames.proofs.ItemLaws.{each_append, each_cons, each_copy, each_map, each_mapped, each_rest, no_items, none_passes}
 use Rattle.kb_ways.proofs.PictureLaws.{receiver_still, slots_are}
 use Rattle.kb_names.specs.declared.types.JType.TheVariants as types
 use Rattle.kb_picture.specs.declared.picture.Seen.TheVariants as seens
@@ -79,13 +83,11 @@ pub record Sound (world : World) (state : State) : Type 0 where
   pub cells : AreCells world state
   pub made : Each (IsMade world state) state.made
   pub receiver : HasReadReceiver world state.method state.stage state.picture
-  pub alone : IsAlone state.method state.stage
-  pub unhandled : HasNoHandlers world state.method
   pub parameters : HasNoneLeftOut world state.method
   pub keys : SwitchesRise world
 
-pub sound_reached : (world : World) (state : State) → IsReached world state → IsAlone state.method state.stage → HasNoHandlers world state.method → Sound world state
-sound_reached world state h alone unhandled = record {
+pub sound_reached : (world : World) (state : State) → IsReached world state → Sound world state
+sound_reached world state h = record {
   typed = h.typed;
   found = h.sound.found;
   kinds = h.sound.kinds;
@@ -94,8 +96,6 @@ sound_reached world state h alone unhandled = record {
   cells = h.sound.cells;
   made = h.sound.made;
   receiver = h.receiver;
-  alone = alone;
-  unhandled = unhandled;
   parameters = h.parameters;
   keys = h.keys;
 }
@@ -253,8 +253,6 @@ module _ (world : World) (state : State) (nodes : List Node) (when : List (TermI
     cells = cells_still world state grown_state grown_still refl sound.cells.seen sound.cells;
     made = made_still world state grown_state grown_still state.made sound.made;
     receiver = sound.receiver;
-    alone = sound.alone;
-    unhandled = sound.unhandled;
     parameters = sound.parameters;
     keys = sound.keys;
   }
@@ -271,45 +269,79 @@ asked_sound world state cs compare sound =
 
 -- ---- frames
 
+-- the frame of a method that begins has each local that its code may write
+pub begun_is_frame : (world : World) (state : State) (method : MethodId) (arguments : List SymValue) → Each (IsSymValue world state) arguments
+    → IsFrame world state (begun_frame world method arguments)
+begun_is_frame world state method arguments each =
+    let limit : ℕ = max_locals_of world method in
+    let front : List (Option SymValue) = map (λ (value : SymValue). Some value) arguments in
+    let back : List (Option SymValue) = replicate (limit - length arguments) None in
+    record {
+      room = omega (arith, length-append front back, length-map arguments (λ (value : SymValue). Some value), length-replicate {A = Option SymValue} (limit - length arguments) None);
+      locals = each_append (IsLocal world state) front back (each_mapped (IsSymValue world state) (IsLocal world state) (λ (value : SymValue). Some value) arguments (λ value is. is) each)
+          (each_copy (IsLocal world state) (limit - length arguments) None tt);
+      stack = no_items (IsSymValue world state);
+    }
+
 module _ (world : World) (state : State) (frame : SymFrame) (callers : List SymFrame) (running : state.stage ≡ Runs frame callers) (sound : Sound world state) where
   pub frame_sound : IsFrame world state frame × Each (IsFrame world state) callers
   frame_sound = subst (IsStage world state) running sound.stage
 
-  frame_alone : (frame.method ≡ state.method) × (callers ≡ [])
-  frame_alone = subst (IsAlone state.method) running sound.alone
-
   frame_receiver : IsReceiverSeen world state.method state.picture
   frame_receiver = subst (λ (stage : Stage). HasReadReceiver world state.method stage state.picture) running sound.receiver
 
-  -- another frame of the method
-  module _ (f : SymFrame → SymFrame) (same : (f frame).method ≡ frame.method) (is : IsFrame world state (f frame)) where
-    abbrev carried_state : Stage → State
-    carried_state stage = record state { stage = with_frame f stage; carried = state.carried + 1 }
+  -- other frames
+  module _ (current : SymFrame) (others : List SymFrame) (is : IsFrame world state current) (each : Each (IsFrame world state) others) where
+    abbrev framed_state : State
+    framed_state = record state { stage = Runs current others; carried = state.carried + 1 }
 
-    carried_still : Still state (carried_state (Runs frame callers))
-    carried_still = record { terms = Extends-refl state.nodes; objects = refl; locs = refl; made = omega arith }
+    framed_still : Still state framed_state
+    framed_still = record { terms = Extends-refl state.nodes; objects = refl; locs = refl; made = omega arith }
 
-    running_sound : Sound world (carried_state (Runs frame callers))
-    running_sound = record {
+    pub framed_sound : Sound world framed_state
+    framed_sound = record {
       typed = sound.typed;
       found = sound.found;
       kinds = sound.kinds;
       conditions = sound.conditions;
-      stage = (
-        frame_still world state (carried_state (Runs frame callers)) carried_still (f frame) is,
-        frames_still world state (carried_state (Runs frame callers)) carried_still callers frame_sound.1,
-      );
-      cells = cells_still world state (carried_state (Runs frame callers)) carried_still refl sound.cells.seen sound.cells;
-      made = made_still world state (carried_state (Runs frame callers)) carried_still state.made sound.made;
+      stage = (frame_still world state framed_state framed_still current is, frames_still world state framed_state framed_still others each);
+      cells = cells_still world state framed_state framed_still refl sound.cells.seen sound.cells;
+      made = made_still world state framed_state framed_still state.made sound.made;
       receiver = frame_receiver;
-      alone = (same ∙ frame_alone.0, frame_alone.1);
-      unhandled = sound.unhandled;
       parameters = sound.parameters;
       keys = sound.keys;
     }
 
-    pub carried_sound : Sound world (carries_out state f).state
-    carried_sound = subst (λ (stage : Stage). Sound world (carried_state stage)) (sym running) running_sound
+  -- the current frame is another one
+  pub carried_sound : (f : SymFrame → SymFrame) → IsFrame world state (f frame) → Sound world (carries_out state f).state
+  carried_sound f is =
+      subst (λ (stage : Stage). Sound world (record state { stage = with_frame f stage; carried = state.carried + 1 })) (sym running) (framed_sound (f frame) callers is frame_sound.1)
+
+  -- a method begins with these arguments, and this is left on the stack
+  pub entered_sound : (bounds : Bounds) (method : MethodId) (arguments rest : List SymValue) → Each (IsSymValue world state) arguments → Each (IsSymValue world state) rest
+      → Sound world (entered world bounds state method arguments rest).state
+  entered_sound bounds method arguments rest given left =
+      entered_has (λ (take : Take). Sound world take.state) world bounds state method arguments rest
+      (subst (λ (stage : Stage). Sound world (record state { stage = called_stage world method arguments rest stage; carried = state.carried + 1 })) (sym running)
+      (framed_sound (begun_frame world method arguments) (record frame { stack = rest } ∷ callers) (begun_is_frame world state method arguments given)
+      (each_cons (IsFrame world state) (record frame { stack = rest }) callers (record { room = frame_sound.0.room; locals = frame_sound.0.locals; stack = left }) frame_sound.1)))
+      sound
+
+  with_result_sound : (value : Option SymValue) (stack : List SymValue) → IsLocal world state value → Each (IsSymValue world state) stack → Each (IsSymValue world state) (with_result value stack)
+  with_result_sound None stack is each = each
+  with_result_sound (Some value) stack is each = each_cons (IsSymValue world state) value stack is each
+
+  -- a value that is there is returned, or none
+  pub returned_sound : (value : Option SymValue) → IsLocal world state value → Sound world (returned world state value).state
+  returned_sound value there =
+      returned_has (λ (take : Take). Sound world take.state) world state value sound
+      (λ caller more waits. (let is : Runs frame callers ≡ Runs frame (caller ∷ more) = ap (Runs frame) (ap callers_of (sym running) ∙ waits) in
+      let each : Each (IsFrame world state) (caller ∷ more) = subst (Each (IsFrame world state)) (ap callers_of (sym running) ∙ waits) frame_sound.1 in
+      let first : IsFrame world state caller = each 0 caller refl in
+      subst (λ (stage : Stage). Sound world (record state { stage = with_frame (resumes world value) (left_stage stage); carried = state.carried + 1 })) (sym (running ∙ is))
+      (framed_sound (resumes world value caller) more (record { room = first.room; locals = first.locals; stack = with_result_sound value caller.stack there first.stack })
+      (each_rest (IsFrame world state) caller more each))))
+      sound
 
 -- ---- objects that are made
 
@@ -359,8 +391,6 @@ module _ (world : World) (state : State) (class : List ℕ) (sound : Sound world
     made = each_append (IsMade world made_state) state.made (new_sym_object world class zero_made.1 ∷ []) (made_still world state made_state made_state_still state.made sound.made)
         (each_cons (IsMade world made_state) (new_sym_object world class zero_made.1) [] object_is (no_items (IsMade world made_state)));
     receiver = sound.receiver;
-    alone = sound.alone;
-    unhandled = sound.unhandled;
     parameters = sound.parameters;
     keys = sound.keys;
   }
@@ -534,8 +564,6 @@ module _ (world : World) (state : State) (sound : Sound world state) where
       cells = cells_still world state read_state read_still refl touched sound.cells;
       made = made_still world state read_state read_still state.made sound.made;
       receiver = read_receiver read;
-      alone = tt;
-      unhandled = sound.unhandled;
       parameters = sound.parameters;
       keys = sound.keys;
     }
@@ -580,37 +608,23 @@ module _ (world : World) (state : State) (sound : Sound world state) (none : arg
   begun_still : (stage : Stage) → Still state (begun_state stage)
   begun_still stage = record { terms = Extends-refl state.nodes; objects = refl; locs = refl; made = omega arith }
 
-  begun_frame : (read : List SymValue) → IsBeginning world state read
-      → IsFrame world (begun_state (Begins read)) (record { method = state.method; at = 0; locals = begun_locals read (max_locals_of world state.method); stack = []; transfers = 0 })
-  begun_frame read h =
-      let new : State = begun_state (Begins read) in
-      let limit : ℕ = max_locals_of world state.method in
-      let none : Option SymValue = None in
-      let missing : length (replicate (limit - length read) none) ≡ limit - length read = length-replicate (limit - length read) none in
-      let values = values_still world state new (begun_still (Begins read)) read h.values in
-      record {
-        room = omega (arith, length-append (map (λ (value : SymValue). Some value) read) (replicate (limit - length read) None), length-map read (λ (value : SymValue). Some value), missing);
-        locals = each_append (IsLocal world new) (map (λ (value : SymValue). Some value) read) (replicate (limit - length read) None)
-            (each_mapped (IsSymValue world new) (IsLocal world new) (λ (value : SymValue). Some value) read (λ value is. is) values)
-            (each_copy (IsLocal world new) (limit - length read) None tt);
-        stack = no_items (IsSymValue world new);
-      }
-
   pub begun_sound : Sound world (begun world state)
   begun_sound = go state.stage refl where
     go : (stage : Stage) → state.stage ≡ stage → Sound world (begun_state stage)
     go (Runs frame callers) is = subst (λ (s : Stage). Sound world (record state { stage = s })) is sound
-    go (Begins read) is = record {
+    go (Begins read) is = let start : IsBeginning world state read = subst (IsStage world state) is sound.stage in record {
       typed = sound.typed;
       found = sound.found;
       kinds = sound.kinds;
       conditions = sound.conditions;
-      stage = (begun_frame read (subst (IsStage world state) is sound.stage), no_items (IsFrame world (begun_state (Begins read))));
+      stage = (
+        begun_is_frame world (begun_state (Begins read)) state.method read
+            (values_still world state (begun_state (Begins read)) (begun_still (Begins read)) read start.values),
+        no_items (IsFrame world (begun_state (Begins read))),
+      );
       cells = cells_still world state (begun_state (Begins read)) (begun_still (Begins read)) refl sound.cells.seen sound.cells;
       made = made_still world state (begun_state (Begins read)) (begun_still (Begins read)) state.made sound.made;
       receiver = receiver_seen world state sound none;
-      alone = (refl, refl);
-      unhandled = sound.unhandled;
       parameters = sound.parameters;
       keys = sound.keys;
     }

@@ -1,6 +1,7 @@
 pub mod Asked
 pub mod Kept
 pub mod Operands
+pub mod Identity
 pub mod Ways
 pub mod Plans
 pub mod Questions

@@ -1,12 +1,12 @@
 -- The ways in which a step of a state goes on or ends, each the counterpart of the machine's way of that name (JVMS 8 sections
--- 2.6, 2.10 and 6.5; the bounds and what is ill-typed are own rules). For now no method calls another and none has a handler: a
--- return and a throw end the run.
-use Rattle.std.specs.Prelude.{ℕ, List, length, Option, option_map, if◌then◌else◌}
+-- 2.6, 2.10 and 6.5; the bounds and what is ill-typed are own rules). For now no method has a handler: a throw ends the run.
+use Rattle.std.specs.Prelude.{ℕ, suc, List, [], ◌∷◌, length, nat_lt, Option, Some, None, option_map, if◌then◌else◌}
 use Rattle.std.specs.Option.{option_map_or}
-use Rattle.kb_heap.specs.declared.bounds.Bound.TheVariants.{Loops}
+use Rattle.kb_class.specs.declared.ids.MethodId.{MethodId}
+use Rattle.kb_heap.specs.declared.bounds.Bound.TheVariants.{Loops, Depth}
 use Rattle.kb_heap.specs.declared.bounds.Bounds.{Bounds}
 use Rattle.kb_classes.specs.World.{World}
-use Rattle.kb_semantics.specs.Config.{has_room, place_in_code}
+use Rattle.kb_semantics.specs.Config.{behind, has_room, place_in_code}
 use Rattle.kb_semantics.specs.Ways.{counted}
 use Rattle.kb_picture.specs.declared.path.Out.TheVariants as outs
 use Rattle.kb_picture.specs.declared.path.SymEnding.{SymEnding}
@@ -17,7 +17,8 @@ use Rattle.kb_frames.specs.declared.value.Outcome.TheVariants.{Goes as OutcomeGo
 use Rattle.kb_frames.specs.declared.frame.SymFrame.{SymFrame}
 use Rattle.kb_frames.specs.State.{State}
 use Rattle.kb_frames.specs.StandsFor.{out_of}
-use Rattle.kb_frames.specs.Lent.{on_frame, carried_on, transfers_of, locals_of}
+use Rattle.kb_frames.specs.Calls.{called, left}
+use Rattle.kb_frames.specs.Lent.{on_frame, callers_of, carried_on, transfers_of, locals_of}
 use Rattle.kb_frames.specs.Making.{with_made}
 use Rattle.kb_frames.specs.Next.{method_now, offset_now}
 
@@ -26,11 +27,13 @@ pub record Take : Type 0 where
   pub state : State
   pub outcome : Outcome
 
--- A way on: at the next offset with these locals and this stack; at a target with this stack; out of the method, with a value
--- or none; by a new object of a class that is thrown; or none, since the instruction is ill-typed.
+-- A way on: at the next offset with these locals and this stack; at a target with this stack; into a method with code, with
+-- these arguments and the stack that is left here; out of the method, with a value or none; by a new object of a class that is
+-- thrown; or none, since the instruction is ill-typed.
 pub data Way : Type 0 where
   Goes : List (Option SymValue) → List SymValue → Way
   Jumps : ℕ → List SymValue → Way
+  Enters : MethodId → List SymValue → List SymValue → Way
   Leaves : Option SymValue → Way
   Throws : List ℕ → Way
   Fails : Way
@@ -64,9 +67,33 @@ jumps world bounds state target stack =
     (option_map_or (λ transfers. carries_out state (λ (frame : SymFrame). record frame { at = target; stack = stack; transfers = transfers }))
     (counted bounds.run (offset_now state.stage) target (transfers_of state.stage)) (record { state = state; outcome = Cut Loops }))
 
--- the method returns
-abbrev pub leaves : State → Option SymValue → Take
-leaves state value = ends state (Returned (option_map out_of value))
+-- ---- a call and a return
+
+-- A method begins with these arguments, and `rest` is left on the caller's stack; one frame more than the bound is past depth.
+unfoldable pub entered : World → Bounds → State → MethodId → List SymValue → List SymValue → Take
+entered world bounds state method arguments rest =
+    if nat_lt (suc (length (callers_of state.stage))) bounds.run.depth
+    then record { state = carried_on (called world method arguments rest state); outcome = OutcomeGoes }
+    else record { state = state; outcome = Cut Depth }
+
+-- a result on a stack: none of void
+abbrev pub with_result : Option SymValue → List SymValue → List SymValue
+with_result None stack = stack
+with_result (Some value) stack = value ∷ stack
+
+-- the nearest caller goes on behind its invoke
+abbrev pub resumes : World → Option SymValue → SymFrame → SymFrame
+resumes world value caller = record caller { at = behind world caller.method caller.at; stack = with_result value caller.stack }
+
+abbrev pub returned_to : World → State → List SymFrame → Option SymValue → Take
+returned_to world state [] value = ends state (Returned (option_map out_of value))
+returned_to world state (caller ∷ more) value =
+    if has_room world caller.method (length (with_result value caller.stack)) then carries_out (left state) (resumes world value) else ill_typed world state
+
+-- The method's result, or none, is handed to the nearest caller's stack, which must have room for it; that caller goes on behind
+-- its invoke. Where it has no room, the return is ill-typed. With no caller the run ends.
+unfoldable pub returned : World → State → Option SymValue → Take
+returned world state value = returned_to world state (callers_of state.stage) value
 
 -- ---- a throw
 
@@ -80,7 +107,8 @@ throws world state class = ends (with_made world state class) (Threw (outs.New (
 abbrev pub went : World → Bounds → ℕ → State → Way → Take
 went world bounds next state (Goes locals stack) = goes_on world next state locals stack
 went world bounds next state (Jumps target stack) = jumps world bounds state target stack
-went world bounds next state (Leaves value) = leaves state value
+went world bounds next state (Enters method arguments rest) = entered world bounds state method arguments rest
+went world bounds next state (Leaves value) = returned world state value
 went world bounds next state (Throws class) = throws world state class
 went world bounds next state Fails = ill_typed world state
 

@@ -14,7 +14,7 @@ use kb_names::JType;
 use kb_terms::{Op, TermId};
 
 /// Whether the value has the kind of the type.
-pub(crate) fn is_of_kind(kind: &JType, value: SymValue) -> bool
+pub fn is_of_kind(kind: &JType, value: SymValue) -> bool
     ensures { result ≡ is_of_kind kind.now value }
 {
     match (kind, value) {
