@@ -4,11 +4,11 @@ use Rattle.std.proofs.Common.{◌≡◌, pos, List, [], ◌∷◌, drop, slice_g
 use Rattle.std.specs.Option.{option_map, option_and_then}
 use Rattle.kb_arith.specs.Word.{word_and}
 use Rattle.kb_heap.specs.declared.heap.Value.{Value}
-use Rattle.kb_heap.specs.declared.heap.Value.TheVariants.{Int as IntValue, Null as NullValue, Ref}
+use Rattle.kb_heap.specs.declared.heap.Value.TheVariants.{Int as IntValue}
 use Rattle.kb_names.specs.declared.types.JType.{JType}
 use Rattle.kb_names.specs.declared.types.JType.TheVariants as types
 use Rattle.kb_semantics.specs.Instructions.{is_null as is_null_reference}
-use Rattle.kb_semantics.specs.Operands.{Reference, Taken, a_reference, a_value_for, an_object_and_value, behind_it, reference_of, taken, value_of_reference, two_references as two_of}
+use Rattle.kb_semantics.specs.Operands.{Reference, Taken, a_reference, a_value_for, an_object_and_value, behind_it, taken, two_references as two_of}
 use Rattle.kb_semantics.specs.Values.{kept}
 use Rattle.kb_picture.specs.Endings.{Reading}
 use Rattle.kb_frames.specs.declared.value.SymValue.{SymValue}
@@ -19,50 +19,12 @@ use Rattle.kb_ways.specs.Operands.{an_object_and_value as object_and_value, of_k
 use Rattle.kb_ways.specs.Kept.{is_of_kind, kept_in}
 use Rattle.kb_resolution.specs.Lookup.{only_where}
 use Rattle.kb_frames.specs.State.{State}
-
--- ---- references
-
--- the value is null or an object
-abbrev pub IsReference : SymValue → Type 0
-IsReference (Int term) = ⊥
-IsReference Null = Unit {0}
-IsReference (Obj number) = Unit {0}
-IsReference (Literal number) = Unit {0}
-IsReference (New number) = Unit {0}
-IsReference (Loc number) = Unit {0}
-
--- a value that is a reference, as one: of an int, which is none, null
-abbrev pub reference_in : Value → Reference
-reference_in (IntValue z) = None
-reference_in NullValue = None
-reference_in (Ref o) = Some o
-
--- the reference that a symbolic value has at an input
-abbrev pub referred : Reading → SymValue → Reference
-referred r value = reference_in (value_of_sym r value)
-
--- what is a reference is no int
-pub reference_kind : (it : Option SymValue) (value : SymValue) → reference it ≡ Some value → IsReference value
-reference_kind None value e = absurd cc
-reference_kind (Some (Int t)) value e = absurd cc
-reference_kind (Some Null) value e = (let same : Null ≡ value = cc in subst IsReference same tt)
-reference_kind (Some (Obj n)) value e = (let same : Obj n ≡ value = cc in subst IsReference same tt)
-reference_kind (Some (Literal n)) value e = (let same : Literal n ≡ value = cc in subst IsReference same tt)
-reference_kind (Some (New n)) value e = (let same : New n ≡ value = cc in subst IsReference same tt)
-reference_kind (Some (Loc n)) value e = (let same : Loc n ≡ value = cc in subst IsReference same tt)
+pub use Rattle.kb_stepcall.proofs.ReferenceLaws.{IsReference, reference_back, reference_in, reference_kind, reference_value, referred}
 
 module _ (r : Reading) where
   -- the values of a stack
   abbrev V : List SymValue → List Value
   V stack = values_of_sym r stack
-
-  pub reference_back : (value : SymValue) → IsReference value → value_of_reference (referred r value) ≡ value_of_sym r value
-  reference_back (Int t) is = absurd is
-  reference_back Null is = refl
-  reference_back (Obj n) is = refl
-  reference_back (Literal n) is = refl
-  reference_back (New n) is = refl
-  reference_back (Loc n) is = refl
 
   pub null_is : (value : SymValue) → IsReference value → is_null_reference (referred r value) ≡ is_null value
   null_is (Int t) is = absurd is
@@ -72,15 +34,6 @@ module _ (r : Reading) where
   null_is (New n) is = refl
   null_is (Loc n) is = refl
 
-  pub reference_value : (it : Option SymValue) → reference_of (option_map (value_of_sym r) it) ≡ option_map (referred r) (reference it)
-  reference_value None = refl
-  reference_value (Some (Int t)) = refl
-  reference_value (Some Null) = refl
-  reference_value (Some (Obj n)) = refl
-  reference_value (Some (Literal n)) = refl
-  reference_value (Some (New n)) = refl
-  reference_value (Some (Loc n)) = refl
-
   -- ---- one operand
 
   abbrev pub top_reference : List SymValue → SymValue → Taken Reference
@@ -88,7 +41,7 @@ module _ (r : Reading) where
 
   pub one_reference_is : (stack : List SymValue) → a_reference (V stack) ≡ option_map (top_reference stack) (one_reference stack)
   one_reference_is [] = refl
-  one_reference_is (value ∷ stack) = ap (option_map (taken (V (value ∷ stack)))) (reference_value (Some value)) ∙ go (reference (Some value)) where
+  one_reference_is (value ∷ stack) = ap (option_map (taken (V (value ∷ stack)))) (reference_value r (Some value)) ∙ go (reference (Some value)) where
     go : (it : Option SymValue) → option_map (taken (V (value ∷ stack))) (option_map (referred r) it) ≡ option_map (top_reference (value ∷ stack)) it
     go None = refl
     go (Some v) = refl

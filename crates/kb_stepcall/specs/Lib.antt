@@ -1,0 +1,4 @@
+pub mod Operands
+pub mod Platform
+pub mod Calls
+pub mod Making

@@ -1,0 +1,48 @@
+//! What a method of a platform class answers at once (java.lang.Object, equals).
+ghost use Rattle.std.specs.Prelude.{◌≡◌, drop, IfOk};
+ghost use Rattle.kb_frames.specs.Lent.{stack_of};
+ghost use Rattle.kb_arith.specs.Word.{truth};
+ghost use Rattle.kb_ways.specs.Needs.{IsFor};
+ghost use Rattle.kb_ways.specs.Turns.{led_by, told};
+ghost use Rattle.kb_stepcall.specs.Operands.{topmost};
+ghost use Rattle.kb_stepcall.specs.Platform.{answers_at_once, equals};
+
+use crate::NoMemory;
+use crate::operands::operand;
+use kb_class::MethodInfo;
+use kb_frames::{Outcome, SymState, SymValue};
+use kb_lookups::is_equals;
+use kb_ways::{Turn, constant, replaces, same};
+
+/// Object.equals answers whether its operands are one object; each other one is a constructor, which does nothing. It takes no
+/// frame.
+pub(crate) fn answer_at_once(
+    turn: &Turn<'_>,
+    state: &mut SymState,
+    method: &MethodInfo,
+    count: usize,
+) -> Result<Outcome, NoMemory>
+    requires { IsFor turn.now state.old }
+    ensures { IfOk result (λ outcome. told state.new outcome ≡ led_by turn.now (answers_at_once turn.now.world.now state.old method.now (topmost count (stack_of state.old.stage)) (drop count (stack_of state.old.stage)))) }
+{
+    if is_equals(turn.world, method) {
+        return equals(turn, state, count);
+    }
+    replaces(turn, state, count, &[])
+}
+
+// Object.equals
+fn equals(turn: &Turn<'_>, state: &mut SymState, count: usize) -> Result<Outcome, NoMemory>
+    requires { IsFor turn.now state.old }
+    ensures { IfOk result (λ outcome. told state.new outcome ≡ led_by turn.now (equals state.old (topmost count (stack_of state.old.stage)) (drop count (stack_of state.old.stage)))) }
+{
+    let so = same(operand(state, count, 0), operand(state, count, 1));
+    let term = constant(state, truth(so))?;
+    replaces(turn, state, count, &[SymValue::Int(term)])
+}
+
+fn truth(so: bool) -> i32
+    ensures { result ≡ truth so }
+{
+    if so { 1 } else { 0 }
+}
