@@ -52,9 +52,10 @@ use Rattle.kb_stepref.specs.Questions.{question_of}
 use Rattle.kb_stepref.specs.Takes.{taken}
 use Rattle.kb_stepref.proofs.FirstReadLaws.{IsAskedAt, asked}
 use Rattle.kb_stepref.proofs.ReachedLaws.{now_known}
-use Rattle.kb_stepref.proofs.SoundLaws.{answered_stage, none_asked, plan_sound}
+use Rattle.kb_stepref.proofs.SoundLaws.{answered_method, answered_stage, none_asked, plan_sound}
 use Rattle.kb_drive.proofs.EndLaws.{LeavesIn, begun_top, effect_leaves}
-use Rattle.kb_drive.proofs.ReferenceEnds.{plan_leaves, stack_there}
+use Rattle.kb_frames.proofs.ItemLaws.{option_has_at}
+use Rattle.kb_drive.proofs.ReferenceEnds.{CallsNothing, calls_begun, calls_same, plan_leaves, stack_there}
 
 -- a way that leaves no method open enters none
 enters_none : (world : World) (state : State) (way : Way) → LeavesIn world state way → EntersNone way
@@ -128,28 +129,28 @@ answered_alone : (world : World) (choice : Choice) (state : State) (slot : Origi
 answered_alone world choice state slot type alone = if_has IsAloneIn (is_reference_type type) _ _ (found_alone slot _ _ alone) (found_alone slot _ _ alone)
 
 module _ (world : World) (bounds : Bounds) where
-  plan_alone : (state : State) (frame : SymFrame) (callers : List SymFrame) → state.stage ≡ Runs frame callers → Sound world state → state.picture.locs ≡ [] → IsAloneIn state
+  plan_alone : (state : State) (frame : SymFrame) (callers : List SymFrame) → state.stage ≡ Runs frame callers → Sound world state → state.picture.locs ≡ [] → CallsNothing world state → IsAloneIn state
       → Alone (takes_up plan_of world bounds Only state)
-  plan_alone state frame callers running sound none alone =
-      option_has Alone (instruction_at world (method_now state.method state.stage) (offset_now state.stage)) (carried_out plan_of world bounds Only state) (ill_typed world state)
-      (λ found. (let plan = plan_of world state Only found.0 in
+  plan_alone state frame callers running sound none calls alone =
+      option_has_at Alone (instruction_at world (method_now state.method state.stage) (offset_now state.stage)) (carried_out plan_of world bounds Only state) (ill_typed world state)
+      (λ found e. (let plan = plan_of world state Only found.0 in
       let good = plan_sound world state sound frame callers running found.0 in
       went_alone world bounds found.1 plan.state (alone_same state plan.state good.behind.method good.behind.stage alone) plan.way
-      (enters_none world plan.state plan.way (plan_leaves world state none (stack_there world state state.stage sound.stage) found.0)))) alone
+      (enters_none world plan.state plan.way (plan_leaves world state none (stack_there world state state.stage sound.stage) found.0 (calls found e))))) alone
 
   cut_alone : (bound : Option Bound) (state : State) (take : Take) → IsAloneIn state → (bound ≡ None → Alone take) → Alone (cut_where bound state take)
   cut_alone None state take alone h = h refl
   cut_alone (Some bound) state take alone h = alone
 
-pub references_alone : (world : World) (bounds : Bounds) (state : State) (choice : Choice) → AreInRange bounds → IsAtReferences world state → IsAlone state.method state.stage
+pub references_alone : (world : World) (bounds : Bounds) (state : State) (choice : Choice) → AreInRange bounds → IsAtReferences world state → CallsNothing world state → IsAlone state.method state.stage
     → Has (choices_of world state bounds) choice → IsAlone (taken world bounds state choice).state.method (taken world bounds state choice).state.stage
-references_alone world bounds state choice range at alone has = go (question_of world state bounds) refl has where
+references_alone world bounds state choice range at calls alone has = go (question_of world state bounds) refl has where
   behind : (slot : Origin) (type : JType) → IsAskedAt world bounds state slot type → (told : State) → Sound world told → told.picture.locs ≡ [] → IsAloneIn told
-      → ((number place : ℕ) → slot ≡ Field number place → told.stage ≡ state.stage) → Alone (goes_behind plan_of world bounds slot told)
-  behind (Arg number) type from told sound none alone stays = alone
-  behind (Field number place) type from told sound none alone stays =
-      plan_alone world bounds told from.frame from.callers (stays number place refl ∙ from.running) sound none alone
-  behind (Element array index) type from told sound none alone stays = absurd from
+      → told.method ≡ state.method → ((number place : ℕ) → slot ≡ Field number place → told.stage ≡ state.stage) → Alone (goes_behind plan_of world bounds slot told)
+  behind (Arg number) type from told sound none alone same stays = alone
+  behind (Field number place) type from told sound none alone same stays =
+      plan_alone world bounds told from.frame from.callers (stays number place refl ∙ from.running) sound none (calls_same world state told same (stays number place refl) calls) alone
+  behind (Element array index) type from told sound none alone same stays = absurd from
 
   go : (question : Option Question) → question_of world state bounds ≡ question → Has (option_map_or (alternatives world state bounds) question only) choice
       → Alone (option_map_or (answers plan_of world bounds choice state) question (takes_next plan_of world bounds Only state))
@@ -157,11 +158,12 @@ references_alone world bounds state choice range at alone has = go (question_of 
       let run = running_now world bounds Only state in
       if_has Alone (nat_le bounds.run.steps state.carried) _ (takes_up plan_of world bounds Only (begun world state)) alone
       (plan_alone world bounds (begun world state) run.0 run.1 run.2 (begun_sound world state (sound_reached world state at.reached) (none_asked world bounds state asks)) at.known
-      (begun_alone world state state.stage alone))
+      (calls_begun world state calls) (begun_alone world state state.stage alone))
   go (Some (Reads slot type)) asks offered =
       let told : State = answered world choice state (Reads slot type) in
       let told_alone : IsAloneIn told = answered_alone world choice state slot type alone in
       cut_alone world bounds (passed_by choice) told (goes_behind plan_of world bounds slot told) told_alone
       (λ passed. (let heap = now_known world bounds state at slot type asks choice range offered passed in
       behind slot type (asked world bounds state at slot type asks).from told heap.sound heap.known told_alone
+      (answered_method world choice state slot type)
       (λ number place is. subst (λ (of : Origin). (answered world choice state (Reads of type)).stage ≡ state.stage) (sym is) (answered_stage world choice state number place type))))

@@ -1,6 +1,7 @@
 -- What the steps of states over heaps need of them, and that steps on references leave such states.
-use Rattle.std.proofs.Common.{◌≡◌, ℕ, true, false, Option, Some, None, refl, sym, ap, ◌∙◌, subst}
+use Rattle.std.proofs.Common.{◌≡◌, ℕ, Bool, true, false, not, Option, Some, None, refl, sym, ap, ◌∙◌, subst, true≢false}
 use Rattle.std.specs.Option.{option_map, option_map_or}
+use Rattle.std.proofs.lemmas.Bool.{and_parts}
 use Rattle.kb_class.specs.declared.ids.MethodId.{MethodId}
 use Rattle.kb_class.specs.Naming.{Has}
 use Rattle.kb_code.specs.declared.instruction.Instr.{Instr}
@@ -28,9 +29,10 @@ use Rattle.kb_stepref.specs.Laws.{IsAtReferences}
 use Rattle.kb_stepref.specs.Takes.{taken}
 use Rattle.kb_stepref.proofs.KeepLaws.{kept}
 use Rattle.kb_stepref.proofs.ReachedLaws.{IsKnown, IsKnownUnlessCut, goes_on_known}
-use Rattle.kb_drive.specs.HeapMethods.{is_heap_method}
+use Rattle.kb_drive.specs.HeapMethods.{is_call_or_new, is_heap_method}
 use Rattle.kb_drive.specs.Reached.{GoesOnReached, IsHeapReached}
 use Rattle.kb_drive.proofs.HeapMethodLaws.{instruction_is_heap}
+use Rattle.kb_drive.proofs.ReferenceEnds.{CallsNothing}
 
 -- ---- what is next
 
@@ -50,7 +52,20 @@ built_next world state h = go (instruction_at world (method_now state.method sta
   go None e = refl
   go (Some found) e =
       subst (λ (m : MethodId). is_built_instruction world m found.0 ≡ true) (sym own)
-      (instruction_is_heap world state.method (offset_now state.stage) found h.method (ap (λ (m : MethodId). instruction_at world m (offset_now state.stage)) (sym own) ∙ e))
+      (and_parts (not (is_call_or_new found.0)) (is_built_instruction world state.method found.0)
+      (instruction_is_heap world state.method (offset_now state.stage) found h.method (ap (λ (m : MethodId). instruction_at world m (offset_now state.stage)) (sym own) ∙ e))).1
+
+-- and calls nothing
+pub calls_nothing : (world : World) (state : State) → IsHeapReached world state → CallsNothing world state
+calls_nothing world state h found e =
+    let own : method_now state.method state.stage ≡ state.method = method_is_own state.method state.stage h.alone in
+    none (is_call_or_new found.0)
+    (and_parts (not (is_call_or_new found.0)) (is_built_instruction world state.method found.0)
+    (instruction_is_heap world state.method (offset_now state.stage) found h.method (ap (λ (m : MethodId). instruction_at world m (offset_now state.stage)) (sym own) ∙ e))).0
+  where
+    none : (b : Bool) → not b ≡ true → b ≡ false
+    none true is = absurd (true≢false (sym is))
+    none false is = refl
 
 pub at_ints : (world : World) (state : State) → IsHeapReached world state → next_is_int world state ≡ true → IsAtInts world state
 at_ints world state h ints = record { reached = h.reached; unhandled = h.unhandled; next = ints }
@@ -82,7 +97,7 @@ goes_on_reached world bounds state choice range h next has pool =
     keeps = kept world bounds state choice (at_references world state h next)
 
     alone : IsAlone after.method after.stage
-    alone = references_alone world bounds state choice range (at_references world state h next) h.alone has
+    alone = references_alone world bounds state choice range (at_references world state h next) (calls_nothing world state h) h.alone has
 
     known : IsKnown world after → IsHeapReached world after
     known is = record {

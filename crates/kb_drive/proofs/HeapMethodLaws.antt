@@ -1,4 +1,4 @@
--- Methods over heaps: how their states begin, and that each of their instructions is one that is built.
+-- Methods over heaps: how their states begin, and that each of their instructions is one of theirs.
 use Rattle.std.proofs.Common.{◌≡◌, ℕ, inl, inr, slice_get, Bool, true, false, ◌&&◌, List, [], ◌∷◌, Option, Some, None, refl, sym, ap, ◌∙◌}
 use Rattle.std.specs.List.{list_all, list_any}
 use Rattle.std.specs.Option.{option_and_then, option_map_or}
@@ -20,8 +20,7 @@ use Rattle.kb_frames.specs.States.{IsState}
 use Rattle.kb_frames.proofs.StateLaws.{start_is_state}
 use Rattle.kb_ways.specs.Reached.{has_none}
 use Rattle.kb_ways.proofs.MethodLaws.{all_passed, code_found, found_has, handlers_none, start_typed, all_rise}
-use Rattle.kb_drive.specs.HeapMethods.{is_heap_code, is_heap_info, is_heap_method, is_none_or_value}
-use Rattle.kb_ways.specs.Built.{is_built_instruction}
+use Rattle.kb_drive.specs.HeapMethods.{is_heap_code, is_heap_info, is_heap_instruction, is_heap_method, is_none_or_value}
 use Rattle.kb_drive.specs.Reached.{IsHeapReached}
 
 -- ---- what such a method has
@@ -34,7 +33,7 @@ pub record HasHeapInfo (world : World) (id : MethodId) : Type 0 where
   pub code : MethodCode
   pub code_is : info.code ≡ Some code
   pub handlers : has_none code.handlers ≡ true
-  pub instructions : list_all (λ (item : ℕ × Instr). is_built_instruction world id item.1) code.listing.items ≡ true
+  pub instructions : list_all (λ (item : ℕ × Instr). is_heap_instruction world id item.1) code.listing.items ≡ true
 
 pub heap_info : (world : World) (id : MethodId) → is_heap_method world id ≡ true → HasHeapInfo world id
 heap_info world id e = go (info_of world id) refl e where
@@ -42,7 +41,7 @@ heap_info world id e = go (info_of world id) refl e where
       → option_map_or (is_heap_code world id) code false ≡ true → HasHeapInfo world id
   with_code info at params None there is = absurd cc
   with_code info at params (Some code) there is =
-      let both = and_parts (has_none code.handlers) (list_all (λ (item : ℕ × Instr). is_built_instruction world id item.1) code.listing.items) is in
+      let both = and_parts (has_none code.handlers) (list_all (λ (item : ℕ × Instr). is_heap_instruction world id item.1) code.listing.items) is in
       record { info = info; info_is = at; params = params; code = code; code_is = there; handlers = both.0; instructions = both.1 }
 
   go : (found : Option MethodInfo) → info_of world id ≡ found → option_map_or (is_heap_info world id) found false ≡ true → HasHeapInfo world id
@@ -98,11 +97,11 @@ heap_methods_begin world method linked heap = record {
 
 -- ---- its instructions
 
--- each of them is one of ints or one on references
+-- each of them is one on ints, the stack, references or fields
 pub instruction_is_heap : (world : World) (id : MethodId) (at : ℕ) (found : Instr × ℕ) → is_heap_method world id ≡ true → instruction_at world id at ≡ Some found
-    → is_built_instruction world id found.0 ≡ true
+    → is_heap_instruction world id found.0 ≡ true
 instruction_is_heap world id at found heap e =
     let h : HasHeapInfo world id = heap_info world id heap in
-    found_has (λ (instr : Instr). is_built_instruction world id instr ≡ true) h.code.listing.items h.code.size at found
-    (all_passed (λ (item : ℕ × Instr). is_built_instruction world id item.1) h.code.listing.items h.instructions)
+    found_has (λ (instr : Instr). is_heap_instruction world id instr ≡ true) h.code.listing.items h.code.size at found
+    (all_passed (λ (item : ℕ × Instr). is_heap_instruction world id item.1) h.code.listing.items h.instructions)
     (ap (option_and_then (λ (code : MethodCode). instruction_in code.listing.items code.size at)) (sym (code_found world id h.info h.code h.info_is h.code_is)) ∙ e)

@@ -44,7 +44,7 @@ use Rattle.kb_stepref.proofs.FirstReadLaws.{IsAskedAt, asked}
 use Rattle.kb_stepref.proofs.FollowLaws.{follows}
 use Rattle.kb_stepref.proofs.KeepLaws.{answers_untold, compared, int_tells, kept, plan_writes, reference_tells, takes_next_untold}
 use Rattle.kb_stepref.proofs.MeasureLaws.{gets_on}
-use Rattle.kb_drive.proofs.HeapLaws.{goes_on_reached}
+use Rattle.kb_drive.proofs.HeapLaws.{calls_nothing, goes_on_reached}
 use Rattle.kb_stepref.proofs.ReachedLaws.{has_input}
 use Rattle.kb_stepref.proofs.ReadInstances.{told_values}
 use Rattle.kb_stepref.proofs.SeenLaws.{read}
@@ -141,7 +141,7 @@ module _ (world : World) (bounds : Bounds) (old : State) (at : IsAtReferences wo
         read = read world bounds old choice at;
         picture = has_input world bounds old choice range at has;
         stays = stays_behind;
-        ending = references_end world bounds old choice range at has;
+        ending = references_end world bounds old choice range at (calls_nothing world old reached) has;
         leads = λ behind. goes_on_reached world bounds old choice range reached at.next has behind.sound.pool;
         fewer = less_rank world bounds old after.state after.outcome (gets_on world bounds old choice at) taken_few;
       }

@@ -1,12 +1,13 @@
--- The methods whose runs are of steps that are built: over ints, booleans and references, static or not, with code that has no
--- handlers and uses only instructions that are built (JVMS 8 section 6.5).
-use Rattle.std.specs.Prelude.{ℕ, Bool, true, false, ◌&&◌, Option}
+-- The methods that are explored for now: over ints, booleans and references, static or not, with code that has no handlers and
+-- uses only instructions that are built, but for calls and new objects, which steps carry out alone (JVMS 8 section 6.5).
+use Rattle.std.specs.Prelude.{ℕ, Bool, true, false, not, ◌&&◌, Option}
 use Rattle.std.specs.List.{list_all}
 use Rattle.std.specs.Option.{option_map_or}
 use Rattle.kb_class.specs.declared.ids.MethodId.{MethodId}
 use Rattle.kb_class.specs.declared.members.MethodCode.{MethodCode}
 use Rattle.kb_class.specs.declared.members.MethodInfo.{MethodInfo}
 use Rattle.kb_code.specs.declared.instruction.Instr.{Instr}
+use Rattle.kb_code.specs.declared.instruction.Instr.TheVariants as instrs
 use Rattle.kb_classes.specs.Slots.{has_slot_type}
 use Rattle.kb_classes.specs.World.{World}
 use Rattle.kb_names.specs.declared.types.JType.{JType}
@@ -18,8 +19,20 @@ use Rattle.kb_ways.specs.Built.{is_built_instruction}
 abbrev pub is_none_or_value : Option JType → Bool
 is_none_or_value result = option_map_or has_slot_type result true
 
+-- invokevirtual, invokespecial, invokestatic, invokeinterface and new
+abbrev pub is_call_or_new : Instr → Bool
+is_call_or_new (instrs.Virtual entry) = true
+is_call_or_new (instrs.Special entry) = true
+is_call_or_new (instrs.Static entry) = true
+is_call_or_new (instrs.Interface entry) = true
+is_call_or_new (instrs.New entry) = true
+is_call_or_new _ = false
+
+abbrev pub is_heap_instruction : World → MethodId → Instr → Bool
+is_heap_instruction world id instr = not (is_call_or_new instr) && is_built_instruction world id instr
+
 abbrev pub is_heap_code : World → MethodId → MethodCode → Bool
-is_heap_code world id code = has_none code.handlers && list_all (λ (item : ℕ × Instr). is_built_instruction world id item.1) code.listing.items
+is_heap_code world id code = has_none code.handlers && list_all (λ (item : ℕ × Instr). is_heap_instruction world id item.1) code.listing.items
 
 abbrev pub is_heap_info : World → MethodId → MethodInfo → Bool
 is_heap_info world id info =

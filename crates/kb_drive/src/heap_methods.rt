@@ -1,10 +1,11 @@
-//! Which methods run by steps that are built.
+//! Which methods are explored for now.
 ghost use Rattle.std.specs.Prelude.{◌≡◌};
 ghost use Rattle.std.specs.List.{list_all};
 ghost use Rattle.kb_classes.specs.Slots.{has_slot_type};
-ghost use Rattle.kb_drive.specs.HeapMethods.{is_heap_code, is_heap_info, is_heap_method, is_none_or_value};
+ghost use Rattle.kb_drive.specs.HeapMethods.{is_call_or_new, is_heap_code, is_heap_info, is_heap_instruction, is_heap_method, is_none_or_value};
 
 use kb_class::{MethodCode, MethodId, MethodInfo};
+use kb_code::Instr;
 use kb_names::JType;
 use kb_ways::is_built_instruction;
 use kb_world::World;
@@ -76,10 +77,34 @@ fn is_heap_code(world: &World, method: MethodId, code: &MethodCode) -> bool
     }
     let mut rest = code.listing.items.as_slice();
     while let [item, others @ ..] = rest {
-        if !is_built_instruction(world, method, &item.1) {
+        if !is_heap_instruction(world, method, &item.1) {
             return false;
         }
         rest = others;
     }
     true
+}
+
+// Whether the instruction is one on ints, the stack, references or fields.
+fn is_heap_instruction(world: &World, method: MethodId, instr: &Instr) -> bool
+    ensures { result ≡ is_heap_instruction world.now method instr.now }
+{
+    if is_call_or_new(instr) {
+        return false;
+    }
+    is_built_instruction(world, method, instr)
+}
+
+// Calls and new objects are left to the steps for now.
+fn is_call_or_new(instr: &Instr) -> bool
+    ensures { result ≡ is_call_or_new instr.now }
+{
+    matches!(
+        instr,
+        Instr::Virtual(_)
+            | Instr::Special(_)
+            | Instr::Static(_)
+            | Instr::Interface(_)
+            | Instr::New(_)
+    )
 }

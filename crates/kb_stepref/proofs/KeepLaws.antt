@@ -1,6 +1,6 @@
 -- What a take keeps of a state: an instruction sees nothing and adds no condition, and the answer of a question adds one slot
 -- that is seen.
-use Rattle.std.proofs.Common.{◌≡◌, ℕ, List, [], ◌∷◌, ◌++◌, length, take, drop, nat_le, Bool, Option, Some, None, refl, sym, subst, ◌∙◌, cond, if◌then◌else◌}
+use Rattle.std.proofs.Common.{◌≡◌, ℕ, pos, List, [], ◌∷◌, ◌++◌, length, take, drop, nat_le, Bool, Option, Some, None, refl, sym, subst, ◌∙◌, cond, if◌then◌else◌}
 use Rattle.std.specs.Option.{option_map_or}
 use Rattle.kb_code.specs.declared.instruction.Instr.{Instr}
 use Rattle.kb_code.specs.declared.instruction.Instr.TheVariants as instrs
@@ -10,11 +10,12 @@ use Rattle.kb_classes.specs.World.{World}
 use Rattle.kb_classes.specs.declared.slots.FieldSlot.{FieldSlot}
 use Rattle.kb_names.specs.declared.types.JType.{JType}
 use Rattle.kb_semantics.specs.Config.{has_room, instruction_at}
+use Rattle.kb_semantics.specs.Instructions.{BySelection, CallKind, Special, Static}
 use Rattle.kb_terms.specs.declared.node.TermId.{TermId}
 use Rattle.kb_terms.specs.declared.node.VarKind.{VarKind}
 use Rattle.kb_terms.specs.declared.node.Node.{Node}
-use Rattle.kb_terms.specs.declared.node.Node.TheVariants.{Var}
-use Rattle.kb_terms.specs.Terms.{Extends, variables_of}
+use Rattle.kb_terms.specs.declared.node.Node.TheVariants.{Const, Var}
+use Rattle.kb_terms.specs.Terms.{Extends, interned, variables_of}
 use Rattle.kb_terms.proofs.Growth.{extends-more}
 use Rattle.kb_terms.proofs.Values.{Extends-refl, Extends-trans}
 use Rattle.kb_picture.specs.declared.choice.Choice.{Choice}
@@ -35,13 +36,16 @@ use Rattle.kb_frames.specs.declared.value.SymValue.TheVariants.{Int, Null, Obj, 
 use Rattle.kb_frames.specs.FirstReads.{cells_chosen, first_int, first_reference, found_in, value_chosen}
 use Rattle.kb_frames.specs.Heaps.{with_cell, with_made_value}
 use Rattle.kb_frames.specs.Lent.{begun, local_in, stack_of, with_nodes}
+use Rattle.kb_frames.specs.Making.{with_made}
 use Rattle.kb_frames.specs.Next.{method_now, offset_now}
 use Rattle.kb_frames.specs.State.{State}
 use Rattle.kb_ways.specs.Kept.{kept_in, is_of_kind}
 use Rattle.kb_ways.specs.Simulation.{AddsComparisons, Keeps}
 use Rattle.kb_ways.specs.Ways.{Take, Fails, ill_typed, went}
 use Rattle.kb_ways.proofs.KeepLaws.{same_when, went_when, Stays, stays_on, went_stays}
-use Rattle.kb_ways.proofs.GrowLaws.{front_itself, front_of_front, if_has, option_has, HasMore}
+use Rattle.kb_ways.proofs.GrowLaws.{front_itself, front_of_front, if_has, interned_extends, option_has, HasMore}
+use Rattle.kb_stepcall.specs.Calls.{invokes}
+use Rattle.kb_stepcall.proofs.PlanLaws.{invokes_has, makes_has}
 use Rattle.kb_ways.specs.Plans.{Planned, plain, planned, carried_out, takes_next, takes_up, returns_value}
 use Rattle.kb_stepref.specs.Effects.{got, is_local, plan_of, put, put_kept, put_where, puts_kept}
 use Rattle.kb_stepref.specs.Fields.{field_named, has_place, held, put_in}
@@ -143,6 +147,29 @@ module _ (world : World) (state : State) where
   puts_writes field (New number) value = put_there_writes field (New number) value
   puts_writes field (Loc number) value = put_there_writes field (Loc number) value
 
+  -- a call makes a term at most
+  call_writes : (call : CallKind) (entry : ℕ) → Writes (invokes call world state entry)
+  call_writes call entry =
+      invokes_has Writes world state
+      (record {
+        fails = nothing;
+        throws = nothing;
+        enters = λ method count. nothing;
+        nothing = λ count. nothing;
+        term = λ z count. writes_nodes state (interned state.nodes (Const z)).0 (interned_extends state.nodes (Const z));
+      }) call entry
+
+  made_writes : (class : List ℕ) → WritesHeap state (with_made world state class)
+  made_writes class = record {
+    method = refl;
+    init = refl;
+    stage = refl;
+    carried = refl;
+    picture = refl;
+    terms = interned_extends state.nodes (Const (pos 0));
+    when = refl;
+  }
+
   pub plan_writes : (instr : Instr) → WritesHeap state (plan_of world state Only instr).state
   plan_writes (instrs.LoadRef k) = planned_writes (reference (cond (is_local world state k) (local_in state.stage k) None)) _ (λ value. nothing)
   plan_writes (instrs.StoreRef k) = planned_writes (a_reference (stack_of state.stage)) _ (λ value. nothing)
@@ -154,6 +181,11 @@ module _ (world : World) (state : State) where
       planned_writes (field_named world state entry) _ (λ field. planned_writes (a_reference (stack_of state.stage)) (got world state field) (got_writes field))
   plan_writes (instrs.PutField entry) =
       planned_writes (field_named world state entry) _ (λ field. planned_writes (an_object_and_value field.kind (stack_of state.stage)) _ (λ t. puts_writes field t.0 t.1))
+  plan_writes (instrs.Virtual entry) = call_writes BySelection entry
+  plan_writes (instrs.Special entry) = call_writes Special entry
+  plan_writes (instrs.Static entry) = call_writes Static entry
+  plan_writes (instrs.Interface entry) = call_writes BySelection entry
+  plan_writes (instrs.New entry) = makes_has Writes world state nothing made_writes entry
   plan_writes _ = nothing
 
 -- ---- what an instruction leaves

@@ -14,7 +14,7 @@ use Rattle.kb_classes.specs.World.{World}
 use Rattle.kb_names.specs.declared.types.JType.{JType}
 use Rattle.kb_semantics.specs.Config.{Setting, Config, Outcome, instruction_at}
 use Rattle.kb_semantics.specs.Inputs.{IsTypeCorrect}
-use Rattle.kb_semantics.specs.Instructions.{get_field, if_null, if_same, load_reference, push_null, put_field, return_reference, store_reference}
+use Rattle.kb_semantics.specs.Instructions.{BySelection, Special, Static, get_field, if_null, if_same, load_reference, push_null, put_field, return_reference, store_reference}
 use Rattle.kb_semantics.specs.Looks.{stored_by, stores}
 use Rattle.kb_semantics.specs.Step.{effect, first_heap, step}
 use Rattle.kb_terms.proofs.Values.{Extends-refl}
@@ -51,6 +51,8 @@ use Rattle.kb_ways.specs.declared.question.Question.TheVariants.{Reads}
 use Rattle.kb_stepref.specs.Questions.{asked_at, asked_by, question_of}
 use Rattle.kb_stepref.proofs.OutcomePlans.{IsPlan, branches_null_is, branches_same_is, gets_is, loads_is, pushes_null_is, returns_reference_is, stores_is}
 use Rattle.kb_stepref.proofs.PutLaws.{puts_follow}
+use Rattle.kb_stepcall.proofs.CallLaws.{invokes_follow}
+use Rattle.kb_stepcall.proofs.MakeLaws.{makes_object_follows}
 use Rattle.kb_picture.specs.declared.choice.Choice.TheVariants.{Only}
 
 -- ---- in a frame
@@ -95,6 +97,11 @@ module _ (world : World) (bounds : Bounds) (base : State) (frame : SymFrame) (ca
   carried_follows next instrs.ReturnRef is told stored e = plain_follows next _ (returns_reference world state) (returns_reference_is world bounds base frame callers sound known input correct c stands next) stored e
   carried_follows next (instrs.GetField entry) is told stored e = plain_follows next _ (gets world state entry) (gets_is world bounds base frame callers sound known input correct c stands next entry told) stored e
   carried_follows next (instrs.PutField entry) is told stored e = puts_follow world bounds base frame callers sound known ordered unhandled input correct c stands next entry stored e
+  carried_follows next (instrs.Virtual entry) is told stored e = invokes_follow world bounds base frame callers sound known unhandled input correct c stands next BySelection entry stored e
+  carried_follows next (instrs.Special entry) is told stored e = invokes_follow world bounds base frame callers sound known unhandled input correct c stands next Special entry stored e
+  carried_follows next (instrs.Static entry) is told stored e = invokes_follow world bounds base frame callers sound known unhandled input correct c stands next Static entry stored e
+  carried_follows next (instrs.Interface entry) is told stored e = invokes_follow world bounds base frame callers sound known unhandled input correct c stands next BySelection entry stored e
+  carried_follows next (instrs.New entry) is told stored e = makes_object_follows world bounds base frame callers sound unhandled input c stands next entry stored e
   carried_follows next _ is told stored e = absurd (true≢false (sym is))
 
   module _ (within : nat_le bounds.run.steps base.carried ≡ false) where

@@ -1,5 +1,5 @@
 -- What holds of a state that is reached holds of it behind each instruction on references, and behind each take.
-use Rattle.std.proofs.Common.{◌≡◌, ℕ, ◌≤◌, Bool, cond, List, ◌∷◌, length, drop, nat_le, Option, Some, None, slice_get, slice_set, refl, sym, ap, subst, ◌∙◌, arith, if◌then◌else◌}
+use Rattle.std.proofs.Common.{◌≡◌, ℕ, ◌+◌, ◌≤◌, ℤ, pos, Bool, cond, List, ◌∷◌, length, length-append, drop, nat_le, Option, Some, None, slice_get, slice_set, refl, sym, ap, subst, ◌∙◌, arith, if◌then◌else◌}
 use Rattle.std.specs.Option.{option_map, option_map_or}
 use Rattle.std.proofs.lemmas.Option.{none-some, option_and_then_some, same_Some}
 use Rattle.kb_class.proofs.Lists.{set_size}
@@ -13,8 +13,12 @@ use Rattle.kb_classes.specs.World.{World}
 use Rattle.kb_classes.specs.declared.slots.FieldSlot.{FieldSlot}
 use Rattle.kb_names.specs.declared.types.JType.{JType}
 use Rattle.kb_semantics.specs.Config.{has_room, instruction_at, max_locals_of}
-use Rattle.kb_semantics.specs.Instructions.{is_wanted}
+use Rattle.kb_semantics.specs.Instructions.{BySelection, CallKind, Special, Static, is_wanted}
 use Rattle.kb_semantics.specs.Ways.{null_pointer}
+use Rattle.kb_terms.specs.declared.node.Node.{Node}
+use Rattle.kb_terms.specs.declared.node.Node.TheVariants.{Const}
+use Rattle.kb_terms.specs.declared.node.TermId.{TermId}
+use Rattle.kb_terms.specs.Terms.{interned}
 use Rattle.kb_picture.specs.declared.choice.Choice.{Choice}
 use Rattle.kb_picture.specs.declared.choice.Choice.TheVariants.{Only}
 use Rattle.kb_picture.specs.declared.picture.Origin.{Origin}
@@ -28,16 +32,24 @@ use Rattle.kb_frames.specs.declared.value.SymValue.{SymValue}
 use Rattle.kb_frames.specs.declared.value.SymValue.TheVariants.{Int, Null, Obj, Literal, New, Loc}
 use Rattle.kb_frames.specs.declared.value.Outcome.TheVariants.{Cut}
 use Rattle.kb_frames.specs.FirstReads.{first_int, first_reference, found_in}
-use Rattle.kb_frames.specs.Lent.{begun, local_in, locals_of, read_count, stack_of}
+use Rattle.kb_frames.specs.Lent.{begun, local_in, locals_of, read_count, stack_of, with_nodes}
+use Rattle.kb_frames.specs.Making.{with_made}
 use Rattle.kb_frames.specs.Next.{argument_next, method_now, offset_now}
 use Rattle.kb_frames.specs.State.{State}
 use Rattle.kb_frames.specs.States.{Each, IsLocal, IsSymValue}
-use Rattle.kb_ways.specs.Ways.{with_stack, Take, Way, Goes, Jumps, Throws, Fails, ill_typed}
-use Rattle.kb_ways.proofs.GrowLaws.{if_has, option_has}
+use Rattle.kb_ways.specs.Ways.{with_stack, Take, Way, Goes, Jumps, Enters, Throws, Fails, ill_typed}
+use Rattle.kb_ways.proofs.AskedLaws.{interned_is_term}
+use Rattle.kb_ways.proofs.GrowLaws.{if_has, interned_extends, interned_goes_on, more_terms, option_has}
 use Rattle.kb_frames.proofs.ItemLaws.{each_cons, each_drop, each_set, option_has_at, only_has}
 use Rattle.kb_ways.proofs.KeepLaws.{went_stays}
 use Rattle.kb_ways.proofs.GoodWays.{IsGood, running_now, went_sound}
-use Rattle.kb_ways.proofs.SoundLaws.{Sound, begun_sound, frame_sound, receiver_seen, sound_reached}
+use Rattle.kb_ways.proofs.SoundLaws.{Sound, begun_sound, frame_sound, made_sound, receiver_seen, sound_reached}
+use Rattle.kb_stepcall.specs.Calls.{invokes}
+use Rattle.kb_stepcall.specs.Making.{makes_object}
+use Rattle.kb_stepcall.specs.Operands.{topmost}
+use Rattle.kb_stepcall.specs.Platform.{answers_term}
+use Rattle.kb_stepcall.proofs.CallLaws.{each_topmost}
+use Rattle.kb_stepcall.proofs.PlanLaws.{HasWays, invokes_has, makes_has}
 use Rattle.kb_stepref.specs.Choices.{alternatives, choices_of}
 use Rattle.kb_ways.specs.Advancing.{only}
 use Rattle.kb_ways.specs.Plans.{Planned, plain, planned, carried_out, takes_next, takes_up, returns_value}
@@ -57,7 +69,7 @@ use Rattle.kb_stepref.specs.Takes.{taken}
 use Rattle.kb_stepref.proofs.AnsweredLaws.{answered_receiver, answered_sound}
 use Rattle.kb_stepref.proofs.FirstReadLaws.{IsAskedAt, asked, where_so}
 use Rattle.kb_frames.proofs.MoreLaws.{locals_more, values_more}
-use Rattle.kb_stepref.proofs.WrittenLaws.{SoundBehind, held_there, kept_behind, put_kept_behind, sound_itself}
+use Rattle.kb_stepref.proofs.WrittenLaws.{SoundBehind, held_there, kept_behind, more_behind, put_kept_behind, sound_itself}
 use Rattle.kb_ways.proofs.KeptLaws.{kept_there, returns_has, of_kind_is, reference_is}
 
 -- ---- operands
@@ -153,14 +165,17 @@ module _ (world : World) (state : State) (sound : Sound world state) (frame : Sy
   got_good field (Loc number) = held_good field (Loc number)
 
   -- the values that are left are those of the state behind
-  goes_behind_good : (new : State) (values : List SymValue) → SoundBehind world state new → Each (IsSymValue world state) values → IsGood world new (with_stack state values)
-  goes_behind_good new values behind each = record {
+  goes_behind_to : (new : State) (values : List SymValue) → SoundBehind world state new → Each (IsSymValue world new) values → IsGood world new (with_stack state values)
+  goes_behind_to new values behind each = record {
     room =
         subst (λ (stage : Stage). max_locals_of world (method_now new.method stage) ≤ length (locals_of state.stage)) (sym behind.stage)
         (subst (λ m. max_locals_of world (method_now m state.stage) ≤ length (locals_of state.stage)) (sym behind.method) room);
     each_local = locals_more world state new behind.more (locals_of state.stage) locals;
-    each_value = values_more world state new behind.more values each;
+    each_value = each;
   }
+
+  goes_behind_good : (new : State) (values : List SymValue) → SoundBehind world state new → Each (IsSymValue world state) values → IsGood world new (with_stack state values)
+  goes_behind_good new values behind each = goes_behind_to new values behind (values_more world state new behind.more values each)
 
   put_where_good : (field : FieldSlot) (object value : SymValue) → IsSymValue world state value → IsRight (put_where world state field object value)
   put_where_good field object value is =
@@ -187,6 +202,56 @@ module _ (world : World) (state : State) (sound : Sound world state) (frame : Sy
   put_good field (Literal number) value is = placed_good field (Literal number) value is
   put_good field (New number) value is = placed_good field (New number) value is
   put_good field (Loc number) value is = placed_good field (Loc number) value is
+
+  -- ---- calls and new objects
+
+  -- a term that is made lies on what is left
+  term_good : (z : ℤ) (count : ℕ) → IsRight (answers_term state (drop count (stack_of state.stage)) (interned state.nodes (Const z)))
+  term_good z count =
+      let made : List Node × TermId = interned state.nodes (Const z) in
+      let new : State = with_nodes state made.0 in
+      let behind : SoundBehind world state new = more_behind world state sound new (more_terms state made.0 (interned_goes_on state.nodes (Const z) refl)) in
+      record {
+        behind = behind;
+        good = goes_behind_to new (Int made.1 ∷ drop count (stack_of state.stage)) behind
+            (each_cons (IsSymValue world new) (Int made.1) (drop count (stack_of state.stage)) (interned_is_term state.nodes (Const z))
+            (values_more world state new behind.more (drop count (stack_of state.stage)) (rest_good count)));
+      }
+
+  call_ways : HasWays IsRight world state
+  call_ways = record {
+    fails = fails_good;
+    throws = plain_good (Throws null_pointer) tt;
+    enters = λ method count. plain_good (Enters method (topmost count (stack_of state.stage)) (drop count (stack_of state.stage)))
+        (each_topmost (IsSymValue world state) count (stack_of state.stage) stack, rest_good count);
+    nothing = λ count. goes_good (drop count (stack_of state.stage)) (rest_good count);
+    term = term_good;
+  }
+
+  call_good : (call : CallKind) (entry : ℕ) → IsRight (invokes call world state entry)
+  call_good call entry = invokes_has IsRight world state call_ways call entry
+
+  object_good : (class : List ℕ) → IsRight (record { state = with_made world state class; way = with_stack state (New (length state.made) ∷ stack_of state.stage) })
+  object_good class =
+      let new : State = with_made world state class in
+      let longer : length new.made ≡ length state.made + 1 = length-append state.made _ in
+      let behind : SoundBehind world state new = record {
+        sound = made_sound world state class sound;
+        more = record { terms = interned_extends state.nodes (Const (pos 0)); objects = omega arith; locs = omega arith; made = omega (arith, longer) };
+        stage = refl;
+        method = refl;
+        init = refl;
+        picture = refl;
+      } in
+      let there : IsSymValue world new (New (length state.made)) = omega (arith, longer) in
+      record {
+        behind = behind;
+        good = goes_behind_to new (New (length state.made) ∷ stack_of state.stage) behind
+            (each_cons (IsSymValue world new) (New (length state.made)) (stack_of state.stage) there (values_more world state new behind.more (stack_of state.stage) stack));
+      }
+
+  make_good : (entry : ℕ) → IsRight (makes_object world state entry)
+  make_good entry = makes_has IsRight world state fails_good object_good entry
 
   -- ---- all of them
 
@@ -217,6 +282,11 @@ module _ (world : World) (state : State) (sound : Sound world state) (frame : Sy
       (λ (field : FieldSlot). planned state (an_object_and_value field.kind (stack_of state.stage)) (λ (t : SymValue × SymValue). put world state field t.0 t.1))
       (λ field e. planned_good (an_object_and_value field.kind (stack_of state.stage)) (λ (t : SymValue × SymValue). put world state field t.0 t.1)
       (λ t f. put_good field t.0 t.1 (stack 0 t.1 (value_on_top field.kind (stack_of state.stage) t f))))
+  plan_sound (instrs.Virtual entry) = call_good BySelection entry
+  plan_sound (instrs.Special entry) = call_good Special entry
+  plan_sound (instrs.Static entry) = call_good Static entry
+  plan_sound (instrs.Interface entry) = call_good BySelection entry
+  plan_sound (instrs.New entry) = make_good entry
   plan_sound _ = fails_good
 
 -- ---- takes

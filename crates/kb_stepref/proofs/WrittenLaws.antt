@@ -198,7 +198,7 @@ pub record IsKeptBehind (world : World) (state : State) (kept : State × SymValu
   pub value : IsSymValue world kept.0 kept.1
 
 module _ (world : World) (state : State) (sound : Sound world state) where
-  more_behind : (new : State) → HasMore state new → SoundBehind world state new
+  pub more_behind : (new : State) → HasMore state new → SoundBehind world state new
   more_behind new more =
       subst (SoundBehind world state) (sym more.rest)
       (record {

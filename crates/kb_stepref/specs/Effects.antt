@@ -7,7 +7,7 @@ use Rattle.kb_code.specs.declared.instruction.Instr.TheVariants as instrs
 use Rattle.kb_classes.specs.World.{World}
 use Rattle.kb_classes.specs.declared.slots.FieldSlot.{FieldSlot}
 use Rattle.kb_semantics.specs.Config.{has_room, max_locals_of}
-use Rattle.kb_semantics.specs.Instructions.{is_wanted}
+use Rattle.kb_semantics.specs.Instructions.{BySelection, Special, Static, is_wanted}
 use Rattle.kb_semantics.specs.Ways.{null_pointer}
 use Rattle.kb_frames.specs.declared.value.SymValue.{SymValue}
 use Rattle.kb_frames.specs.declared.value.SymValue.TheVariants.{Null}
@@ -22,6 +22,8 @@ use Rattle.kb_ways.specs.Operands.{an_object_and_value, a_reference, reference, 
 use Rattle.kb_ways.specs.Plans.{Planned, plain, planned, returns_value}
 use Rattle.kb_picture.specs.declared.choice.Choice.{Choice}
 use Rattle.kb_ways.specs.Kept.{kept}
+use Rattle.kb_stepcall.specs.Calls.{invokes}
+use Rattle.kb_stepcall.specs.Making.{makes_object}
 
 -- whether a local lies below the limit of the method
 abbrev pub is_local : World → State → ℕ → Bool
@@ -121,4 +123,9 @@ plan_of world state choice (instrs.IfNull want target) = branches_null state wan
 plan_of world state choice instrs.ReturnRef = returns_reference world state
 plan_of world state choice (instrs.GetField entry) = gets world state entry
 plan_of world state choice (instrs.PutField entry) = puts world state entry
+plan_of world state choice (instrs.Virtual entry) = invokes BySelection world state entry
+plan_of world state choice (instrs.Special entry) = invokes Special world state entry
+plan_of world state choice (instrs.Static entry) = invokes Static world state entry
+plan_of world state choice (instrs.Interface entry) = invokes BySelection world state entry
+plan_of world state choice (instrs.New entry) = makes_object world state entry
 plan_of world state choice _ = plain state Fails

@@ -13,6 +13,7 @@ use crate::locals::{load, store};
 use crate::returns::return_reference;
 use kb_code::Instr;
 use kb_frames::{Outcome, SymState, SymValue};
+use kb_stepcall::{Call, invoke, make_object};
 use kb_ways::{Turn, ill_typed, replaces};
 
 /// Carries out the instruction of a turn, to which nothing is left to be told, by the field that it was found to read.
@@ -45,7 +46,12 @@ fn by_instruction(turn: &Turn<'_>, state: &mut SymState) -> Result<Outcome, NoMe
         Instr::ReturnRef => return_reference(turn, state),
         Instr::GetField(entry) => get_field(turn, state, *entry),
         Instr::PutField(entry) => put_field(turn, state, *entry),
-        // Those on ints, and on arrays, new objects, calls and throws, are not yet instructions on references.
+        Instr::Virtual(entry) => invoke(turn, state, Call::BySelection, *entry),
+        Instr::Special(entry) => invoke(turn, state, Call::Special, *entry),
+        Instr::Static(entry) => invoke(turn, state, Call::Static, *entry),
+        Instr::Interface(entry) => invoke(turn, state, Call::BySelection, *entry),
+        Instr::New(entry) => make_object(turn, state, *entry),
+        // Those on ints, and on arrays, casts and throws, are not yet instructions on references.
         Instr::Nop | Instr::PushInt(_) | Instr::Ldc(_) => ill_typed(turn, state),
         Instr::LoadInt(_) | Instr::StoreInt(_) | Instr::Inc(..) => ill_typed(turn, state),
         Instr::Pop | Instr::Pop2 | Instr::Dup | Instr::DupX1 => ill_typed(turn, state),
@@ -56,10 +62,8 @@ fn by_instruction(turn: &Turn<'_>, state: &mut SymState) -> Result<Outcome, NoMe
         Instr::Table(..) | Instr::Lookup(..) => ill_typed(turn, state),
         Instr::ReturnInt | Instr::Return => ill_typed(turn, state),
         Instr::LoadElem(_) | Instr::StoreElem(_) | Instr::Length => ill_typed(turn, state),
-        Instr::NewPrim(_) | Instr::NewRefs(_) | Instr::New(_) => ill_typed(turn, state),
+        Instr::NewPrim(_) | Instr::NewRefs(_) => ill_typed(turn, state),
         Instr::Throw | Instr::Cast(_) | Instr::InstanceOf(_) => ill_typed(turn, state),
-        Instr::Virtual(_) | Instr::Special(_) => ill_typed(turn, state),
-        Instr::Static(_) | Instr::Interface(_) => ill_typed(turn, state),
         Instr::Other(_) => ill_typed(turn, state),
     }
 }

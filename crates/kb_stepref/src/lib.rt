@@ -1,5 +1,5 @@
 //! Symbolic steps on references: the alternatives of the next step of a state, and what a state becomes when one is taken,
-//! under lazy initialisation.
+//! under lazy initialisation. Calls and new objects are carried out by kb_stepcall.
 //!
 //! `specs/Questions.antt` has what a step must be told, `specs/Choices.antt` the alternatives, `specs/Takes.antt` what a take
 //! makes of a state.

@@ -1,4 +1,4 @@
-//! The return of a reference (JVMS 8 section 6.5). For now no method calls another: the run ends.
+//! The return of a reference (JVMS 8 section 6.5).
 ghost use Rattle.std.specs.Prelude.{◌≡◌, IfOk};
 ghost use Rattle.kb_ways.specs.Needs.{HasTerms, IsFor};
 ghost use Rattle.kb_ways.specs.Turns.{led_by, told};
