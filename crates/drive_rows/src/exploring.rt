@@ -76,9 +76,7 @@ fn explore(
     if !is_heap_method(world, method) {
         return Err(RowStop::Malformed);
     }
-    let Ok(state) = start(alloc, world, method, Init::Lazy) else {
-        return Err(RowStop::NoMemory);
-    };
+    let state = start(alloc, world, method, Init::Lazy)?;
     match explore_from(alloc, world, state, &row.bounds, row.paths, oracle) {
         Ok(paths) => {
             report.leaves = paths;

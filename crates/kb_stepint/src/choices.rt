@@ -180,9 +180,7 @@ fn is_default_refuted(state: &SymState, x: TermId, keys: &Keys<'_>) -> Result<bo
     ensures { IfOk result (λ refuted. refuted ≡ is_refuted state.now (key_conditions x (keys_of keys.now) Default)) }
 {
     for place in 0..keys.len() {
-        let Ok(entry) = keys.key_at(place) else {
-            return Err(NoMemory);
-        };
+        let entry = keys.key_at(place)?;
         let condition = equals_number(x, entry.0, false);
         if is_against(state, &condition) {
             return Ok(true);

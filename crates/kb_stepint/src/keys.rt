@@ -45,9 +45,7 @@ fn table_entry(low: i32, targets: &[u32], place: usize) -> Result<(i32, u32), No
     let Some(target) = targets.get(place) else {
         return Err(NoMemory);
     };
-    let Ok(key) = table_key(low, place) else {
-        return Err(NoMemory);
-    };
+    let key = table_key(low, place)?;
     Ok((key, *target))
 }
 

@@ -229,9 +229,7 @@ fn ask_default(state: &mut SymState, x: TermId, keys: &Keys<'_>) -> Result<(), N
     ensures { OnOk result (state.new ≡ all_asked state.old (key_conditions x (keys_of keys.now) Default)) }
 {
     for place in 0..keys.len() {
-        let Ok(entry) = keys.key_at(place) else {
-            return Err(NoMemory);
-        };
+        let entry = keys.key_at(place)?;
         ask(state, &equals_number(x, entry.0, false))?;
     }
     Ok(())

@@ -82,9 +82,7 @@ fn list_method(
     let Some(code) = &method.code else {
         return Ok(None);
     };
-    let Ok(handlers) = handlers_of(alloc, code) else {
-        return Err(Stop::NoMemory);
-    };
+    let handlers = handlers_of(alloc, code)?;
     match decode(alloc, code.bytes.as_slice(), handlers.as_slice()) {
         Ok(listing) => Ok(Some(listing)),
         Err(refusal) => Err(Stop::from(Refusal::Code(file, number, refusal))),

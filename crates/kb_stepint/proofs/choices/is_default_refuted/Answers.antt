@@ -12,15 +12,15 @@ use Rattle.kb_stepint.proofs.choices.is_default_refuted.Goals as goal
 pub loop-place-preserved : goal.loop-place-preserved
 loop-place-preserved c =
     let keys : List (ℤ × ℕ) = keys_of c.args.keys.now in
-    let against : is_against (asked_truth c.args.state.now (equal_sides (Term c.args.x) (Number c.in-Ok.entry.0) false)) false ≡ false =
-    ap (λ (x : Condition). is_against (asked_truth c.args.state.now x) x.truth) (sym (c.equals_number-condition.ensures ∙ of_number c.args.x c.in-Ok.entry.0 false c.in-Ok.ensures.range))
+    let against : is_against (asked_truth c.args.state.now (equal_sides (Term c.args.x) (Number c.in_ok-entry.entry.0) false)) false ≡ false =
+    ap (λ (x : Condition). is_against (asked_truth c.args.state.now x) x.truth) (sym (c.equals_number-condition.ensures ∙ of_number c.args.x c.in_ok-entry.entry.0 false c.in_ok-entry.ensures.range))
     ∙ sym c.is_against.ensures ∙ c.if-is_against.false in
-    key_refutes_not c.args.x keys c.args.state.now c.loop-place.place c.in-Ok.entry (is_refuted c.args.state.now (key_conditions c.args.x keys Default)) c.in-Ok.ensures.key against c.loop-place.invariant
+    key_refutes_not c.args.x keys c.args.state.now c.loop-place.place c.in_ok-entry.entry (is_refuted c.args.state.now (key_conditions c.args.x keys Default)) c.in_ok-entry.ensures.key against c.loop-place.invariant
 
 pub returns-then-is_against : goal.returns-then-is_against
 returns-then-is_against c =
     let keys : List (ℤ × ℕ) = keys_of c.args.keys.now in
-    let against : is_against (asked_truth c.args.state.now (equal_sides (Term c.args.x) (Number c.in-Ok.entry.0) false)) false ≡ true =
-    ap (λ (x : Condition). is_against (asked_truth c.args.state.now x) x.truth) (sym (c.equals_number-condition.ensures ∙ of_number c.args.x c.in-Ok.entry.0 false c.in-Ok.ensures.range))
+    let against : is_against (asked_truth c.args.state.now (equal_sides (Term c.args.x) (Number c.in_ok-entry.entry.0) false)) false ≡ true =
+    ap (λ (x : Condition). is_against (asked_truth c.args.state.now x) x.truth) (sym (c.equals_number-condition.ensures ∙ of_number c.args.x c.in_ok-entry.entry.0 false c.in_ok-entry.ensures.range))
     ∙ sym c.is_against.ensures ∙ c.if-is_against.true in
-    key_refutes c.args.x keys c.args.state.now c.loop-place.place c.in-Ok.entry (is_refuted c.args.state.now (key_conditions c.args.x keys Default)) c.in-Ok.ensures.key against c.loop-place.invariant
+    key_refutes c.args.x keys c.args.state.now c.loop-place.place c.in_ok-entry.entry (is_refuted c.args.state.now (key_conditions c.args.x keys Default)) c.in_ok-entry.ensures.key against c.loop-place.invariant

@@ -16,16 +16,16 @@ use Rattle.kb_stepint.proofs.take.ask_default.Goals as goal
 
 pub ask-requires : goal.ask-requires
 ask-requires c =
-    subst (AreSides c.loop-place.state.nodes) (sym (c.equals_number.ensures ∙ of_number c.args.x c.in-Ok.entry.0 false c.in-Ok.ensures.range))
-    (key_sides c.loop-place.state.nodes c.args.x c.in-Ok.entry.0 false (IsTerm-extends c.args.state.now.nodes c.loop-place.state.nodes c.args.x c.loop-place.invariant.extends c.requires))
+    subst (AreSides c.loop-place.state.nodes) (sym (c.equals_number.ensures ∙ of_number c.args.x c.in_ok-entry.entry.0 false c.in_ok-entry.ensures.range))
+    (key_sides c.loop-place.state.nodes c.args.x c.in_ok-entry.entry.0 false (IsTerm-extends c.args.state.now.nodes c.loop-place.state.nodes c.args.x c.loop-place.invariant.extends c.requires))
 
 pub loop-place-preserved : goal.loop-place-preserved
 loop-place-preserved c =
     let keys : List (ℤ × ℕ) = keys_of c.args.keys.now in
-    let condition : Condition = equal_sides (Term c.args.x) (Number c.in-Ok.entry.0) false in
-    let new : c.ask.new.state ≡ asked c.loop-place.state condition = c.in_ok-ask.ensures ∙ ap (asked c.loop-place.state) (c.equals_number.ensures ∙ of_number c.args.x c.in-Ok.entry.0 false c.in-Ok.ensures.range) in
+    let condition : Condition = equal_sides (Term c.args.x) (Number c.in_ok-entry.entry.0) false in
+    let new : c.ask.new.state ≡ asked c.loop-place.state condition = c.in_ok-ask.ensures ∙ ap (asked c.loop-place.state) (c.equals_number.ensures ∙ of_number c.args.x c.in_ok-entry.entry.0 false c.in_ok-entry.ensures.range) in
     record {
-      asked = key_asked c.args.x keys c.loop-place.state c.ask.new.state (all_asked c.args.state.now (key_conditions c.args.x keys Default)) c.loop-place.place c.in-Ok.entry c.in-Ok.ensures.key new c.loop-place.invariant.asked;
+      asked = key_asked c.args.x keys c.loop-place.state c.ask.new.state (all_asked c.args.state.now (key_conditions c.args.x keys Default)) c.loop-place.place c.in_ok-entry.entry c.in_ok-entry.ensures.key new c.loop-place.invariant.asked;
       extends = Extends-trans c.args.state.now.nodes c.loop-place.state.nodes c.ask.new.state.nodes c.loop-place.invariant.extends
           (subst (λ (s : State). Extends c.loop-place.state.nodes s.nodes) (sym new) (asked_extends c.loop-place.state condition));
     }
