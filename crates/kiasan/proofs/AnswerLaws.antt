@@ -15,7 +15,7 @@ use Rattle.kb_class.specs.Given.{AreGivenBy}
 use Rattle.kiasan.specs.Answers.{Carries, ContentsRefuse, HasContents, IsContentsBy, IsRead, IsReadFault, LineRefuses, RefusesBy, RefusesClasses, RefusesNothing, Replies, RepliesIn, RepliesOn, RepliesTo, SomeUnsound, WordsRefuse, WorldRefuses, text_limit}
 use Rattle.kiasan.specs.Orders.{OrdersBuilt, blocks_of, files_of, texts_of}
 use Rattle.kiasan.specs.Refusals.{Gives}
-use Rattle.kiasan.specs.Samples.{IsMade}
+use Rattle.kiasan.specs.Samples.{IsSampleMade}
 use Rattle.kiasan.proofs.ReadLaws.{read_as_many}
 use Rattle.kiasan.proofs.StageLaws.{stage_goes, stage_stops}
 
@@ -29,11 +29,11 @@ words_go words holds order before now sound result ordered given =
 -- ---- what an order is carried out on
 
 pub contents_made : (Fault : Type 0) (holds : List ℕ → Option (List ℕ)) (order : Order) (blocks : ℕ) (result : Result Contents Stop) → Some blocks ≡ blocks_of order →
-    Gives {A = Contents} ⊥ (LineRefuses (sample_text blocks)) (IsMade blocks) result → Gives {A = Contents} Fault (ContentsRefuse order) (HasContents holds order) result
+    Gives {A = Contents} ⊥ (LineRefuses (sample_text blocks)) (IsSampleMade blocks) result → Gives {A = Contents} Fault (ContentsRefuse order) (HasContents holds order) result
 contents_made Fault holds order blocks result is given =
     subst (λ (by : Option ℕ). Gives {A = Contents} Fault (RefusesBy by) (IsContentsBy by holds order) result) is (go result given)
   where
-    go : (told : Result Contents Stop) → Gives {A = Contents} ⊥ (LineRefuses (sample_text blocks)) (IsMade blocks) told →
+    go : (told : Result Contents Stop) → Gives {A = Contents} ⊥ (LineRefuses (sample_text blocks)) (IsSampleMade blocks) told →
         Gives {A = Contents} Fault (RefusesBy (Some blocks)) (IsContentsBy (Some blocks) holds order) told
     go (Ok contents) made = made
     go (Err (Refused refusal)) refuses = refuses

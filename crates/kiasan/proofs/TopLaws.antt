@@ -27,7 +27,7 @@ use Rattle.kb_refusals.specs.Refusals.{link_status, refusal_status, refusal_line
 use Rattle.kiasan.specs.Answers.{Reply, refuses, ends, AreSound, Carries, ComesTo, ContentsRefuse, HasContents, HasUnsound, Replies, RepliesTo, RepliesOn, RepliesIn, RepliesJob, RepliesReplay, Answers, IsAnswer, IsOfReport, IsOfVerdicts, IsReplay, IsSameReply, EndsAs, EndsMade, EndsOrder, EndsSample, LineRefuses, Owes, SomeUnsound, TextOf, WritesNothing, reply_status}
 use Rattle.kiasan.specs.Exploring.{status_of}
 use Rattle.kiasan.specs.Orders.{OrdersBuilt, files_of}
-use Rattle.kiasan.specs.Samples.{IsMade, sample_job}
+use Rattle.kiasan.specs.Samples.{IsSampleMade, sample_job}
 use Rattle.kiasan.specs.Tests.{count_differs, replay_status}
 use Rattle.kiasan.proofs.OneReply.{one_reply, sample_reply, words_apart}
 use Rattle.kiasan.proofs.WordsLaws.{one_order}
@@ -191,7 +191,7 @@ ends_made words blocks contents status (ends s t) (ends u v) replied is same = s
 on_made : (words : List (List ℕ)) (holds : List ℕ → Option (List ℕ)) (status : Status) (blocks : ℕ) → OrdersBuilt words (Sample blocks) → (order : Order) → order ≡ Sample blocks →
     (contents : Contents) → HasContents holds order contents → (one : Reply) → RepliesOn order contents one → status ≡ reply_status one → EndsSample blocks status
 on_made words holds status blocks ordered order same contents has one replied is =
-    let made : IsMade blocks contents = subst (λ (o : Order). HasContents holds o contents) same has in
+    let made : IsSampleMade blocks contents = subst (λ (o : Order). HasContents holds o contents) same has in
     let on : RepliesOn (Sample blocks) contents one = subst (λ (o : Order). RepliesOn o contents one) same replied in
     inr (contents, made, λ reply also. ends_made words blocks contents status one reply on is (sample_reply words blocks ordered contents one reply on also))
 

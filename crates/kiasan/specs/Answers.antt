@@ -49,7 +49,7 @@ use Rattle.kb_report_laws.specs.OneText.{IsReport}
 use Rattle.kb_report_tests.specs.Tests.{literals_in, tests_of}
 use Rattle.kb_sample.specs.Sample.{sample_text}
 use Rattle.kiasan.specs.Reach.{TargetRefuses}
-use Rattle.kiasan.specs.Samples.{IsMade, IsSampleLine, sample_job}
+use Rattle.kiasan.specs.Samples.{IsSampleMade, IsSampleLine, sample_job}
 use Rattle.kiasan.specs.Exploring.{IsReportOf, status_of}
 use Rattle.kiasan.specs.Tests.{RefusesTests, RunsAsStated, replay_status}
 use Rattle.kiasan.specs.Unbuilt.{IsBuiltTarget}
@@ -247,7 +247,7 @@ RefusesBy (Some blocks) refusal = LineRefuses (sample_text blocks) refusal
 
 abbrev pub IsContentsBy : Option ℕ → (List ℕ → Option (List ℕ)) → Order → Contents → Type 0
 IsContentsBy None holds order contents = IsRead holds order contents
-IsContentsBy (Some blocks) holds order contents = IsMade blocks contents
+IsContentsBy (Some blocks) holds order contents = IsSampleMade blocks contents
 
 abbrev pub ContentsRefuse : Order → Refusal → Type 0
 ContentsRefuse order refusal = RefusesBy (blocks_of order) refusal
@@ -374,7 +374,7 @@ EndsMade (ends one text) status = IsOfReport status
 abbrev pub EndsSample : ℕ → Status → Type 0
 EndsSample blocks status =
     ((refusal : Refusal) × LineRefuses (sample_text blocks) refusal × (status ≡ refusal_status refusal))
-    ⊎ ((contents : Contents) × IsMade blocks contents × ((reply : Reply) → RepliesOn (Sample blocks) contents reply → EndsMade reply status))
+    ⊎ ((contents : Contents) × IsSampleMade blocks contents × ((reply : Reply) → RepliesOn (Sample blocks) contents reply → EndsMade reply status))
 
 -- a status that comes with a text
 abbrev pub IsAnswer : Status → Type 0

@@ -36,7 +36,7 @@ abbrev pub sample_job : Job
 sample_job = record { target = sample_target; init = Lazy; bounds = default_bounds; paths = 100; budget = 20000; files = [] }
 
 -- an order's contents are one class file, of the text of the sample of so many blocks
-pub record IsMade (blocks : ℕ) (contents : Contents) : Type 0 where
+pub record IsSampleMade (blocks : ℕ) (contents : Contents) : Type 0 where
   pub bytes : List ℕ
   pub assembled : IsAssembled (sample_text blocks) bytes
   pub texts_are : contents.texts ≡ []

@@ -10,7 +10,7 @@ ghost use Rattle.kb_test_laws.specs.Texts.{NamesHaveTexts};
 ghost use Rattle.kiasan.specs.Answers.{Carries, IsSampleText, LineRefuses, RefusesNothing, RepliesJob};
 ghost use Rattle.kiasan.specs.Exploring.{IsBuiltReport, status_of};
 ghost use Rattle.kiasan.specs.Refusals.{Gives};
-ghost use Rattle.kiasan.specs.Samples.{ArePassed, IsMade, IsSampleLine, blocks_text, passed_text, sample_job, sample_line, sample_target};
+ghost use Rattle.kiasan.specs.Samples.{ArePassed, IsSampleMade, IsSampleLine, blocks_text, passed_text, sample_job, sample_line, sample_target};
 ghost use Rattle.kiasan.specs.Tests.{RunsAsStated, count_passes};
 
 use crate::NoMemory;
@@ -37,7 +37,7 @@ use std::thread::Threads;
 
 /// The class file of the sample of so many blocks, as an order's contents.
 pub fn made_contents(alloc: Global, blocks: u32) -> Result<Contents, Stop>
-    ensures { Gives ⊥ (LineRefuses (sample_text blocks)) (IsMade blocks) result }
+    ensures { Gives ⊥ (LineRefuses (sample_text blocks)) (IsSampleMade blocks) result }
 {
     let text = sample_text(alloc, blocks)?;
     let class = assembled(alloc, text.as_bytes())?;

@@ -5,7 +5,7 @@ use Rattle.kb_sample.specs.Sample.{sample_text}
 use Rattle.kiasan.specs.declared.answer.Contents.{Contents}
 use Rattle.kiasan.specs.Answers.{LineRefuses}
 use Rattle.kiasan.specs.Refusals.{Gives}
-use Rattle.kiasan.specs.Samples.{IsMade}
+use Rattle.kiasan.specs.Samples.{IsSampleMade}
 use Rattle.kiasan.proofs.StageLaws.{gives_by}
 use Rattle.kiasan.proofs.sample.made_contents.Goals as goal
 
@@ -14,7 +14,7 @@ returns-in_err-class c =
     let p = err_from_is_err_and c.from_residual-in_err-class.result c.from_residual-in_err-class.ensures.1 in
     rw (p.1, p.2)
     (gives_by {A = Vec ℕ Global} {B = Contents} ⊥ ⊥ (LineRefuses (sample_text c.args.blocks)) (LineRefuses (sample_text c.args.blocks))
-    (λ (bytes : Vec ℕ Global). IsAssembled (sample_text c.args.blocks) bytes.items) (IsMade c.args.blocks) c.in_err-class.field-0.0 (λ wrong. wrong) (λ refusal refuses. refuses)
+    (λ (bytes : Vec ℕ Global). IsAssembled (sample_text c.args.blocks) bytes.items) (IsSampleMade c.args.blocks) c.in_err-class.field-0.0 (λ wrong. wrong) (λ refusal refuses. refuses)
     (subst (λ (text : List ℕ). Gives {A = Vec ℕ Global} ⊥ (LineRefuses text) (λ bytes. IsAssembled text bytes.items) (Err c.in_err-class.field-0.0))
     (c.as_bytes.ensures.value ∙ c.in_ok-text.ensures) c.in_err-class.ensures))
 
