@@ -39,7 +39,7 @@ ROWS += [(f"--method Figure.{name} Figure.class Disc.class", ["Disc"] * 2, range
 
 # of each folder the methods, their class files, the types of the objects, and the ints; bounds stand behind a method
 OF_MODEL = {
-    "calls": [
+    ".": [
         ("H.g(LH;)I", "H S A B", ["H", "A", "B"], [0]),
         ("J.g(LJ;)I", "J Face", ["J"], [0]),
         ("Frames.down(I)I depth=4", "Frames", [], range(-1, 4)),

@@ -65,7 +65,7 @@ def state_lines(explorer, state, outcome):
         return lines
     if outcome == "goes":
         frame = state.frame
-        if frame.method is not explorer.method:
+        if frame.method.target != explorer.method.target:
             lines.append(f"  in {frame.method.target}")
         lines.append(" ".join(["  stack", *map(value_text, frame.stack)]))
         room = frame.locals[: frame.method.code.locals]
