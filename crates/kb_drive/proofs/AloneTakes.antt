@@ -35,7 +35,7 @@ use Rattle.kb_ways.specs.Operands.{an_int}
 use Rattle.kb_ways.specs.Plans.{carried_out, takes_next, takes_up}
 use Rattle.kb_ways.specs.Questions.{answered, answers, cut_where, goes_behind, passed_by}
 use Rattle.kb_ways.specs.Reached.{IsAlone}
-use Rattle.kb_ways.specs.Ways.{Take, Way, Goes, Jumps, Enters, Leaves, Throws, Fails, ill_typed}
+use Rattle.kb_ways.specs.Ways.{Take, Way, Goes, Jumps, Enters, Leaves, Throws, ThrowsThere, Fails, ill_typed}
 use Rattle.kb_ways.proofs.AloneLaws.{EntersNone, begun_alone, went_alone}
 use Rattle.kb_ways.proofs.GoodWays.{running_now}
 use Rattle.kb_ways.proofs.GrowLaws.{Grows, HasMore, all_asked_grows, if_has, option_has}
@@ -64,6 +64,7 @@ enters_none world state (Jumps target stack) h = tt
 enters_none world state (Enters method arguments rest) h = h
 enters_none world state (Leaves value) h = tt
 enters_none world state (Throws class) h = tt
+enters_none world state (ThrowsThere object kind) h = tt
 enters_none world state Fails h = tt
 
 abbrev IsAloneIn : State → Type 0

@@ -18,8 +18,7 @@ use Rattle.kb_frames.specs.declared.value.Outcome.TheVariants.{Asks, Goes, Ends,
 use Rattle.kb_frames.specs.Next.{method_now, next_is_int, offset_now}
 use Rattle.kb_frames.specs.State.{State}
 use Rattle.kb_ways.specs.Built.{IsBuiltNext, is_built_instruction}
-use Rattle.kb_ways.specs.Reached.{HasNoHandlers, IsAlone}
-use Rattle.kb_ways.proofs.AloneLaws.{alone_unhandled, unhandled_alone}
+use Rattle.kb_ways.specs.Reached.{IsAlone}
 use Rattle.kb_drive.proofs.AloneTakes.{references_alone}
 use Rattle.kb_ways.specs.Simulation.{Keeps}
 use Rattle.kb_ways.proofs.SoundLaws.{reached_sound}
@@ -29,7 +28,7 @@ use Rattle.kb_stepref.specs.Laws.{IsAtReferences}
 use Rattle.kb_stepref.specs.Takes.{taken}
 use Rattle.kb_stepref.proofs.KeepLaws.{kept}
 use Rattle.kb_stepref.proofs.ReachedLaws.{IsKnown, IsKnownUnlessCut, goes_on_known}
-use Rattle.kb_drive.specs.HeapMethods.{is_call_or_new, is_heap_method}
+use Rattle.kb_drive.specs.HeapMethods.{is_call_new_or_throw, is_heap_method}
 use Rattle.kb_drive.specs.Reached.{GoesOnReached, IsHeapReached}
 use Rattle.kb_drive.proofs.HeapMethodLaws.{instruction_is_heap}
 use Rattle.kb_drive.proofs.ReferenceEnds.{CallsNothing}
@@ -52,15 +51,15 @@ built_next world state h = go (instruction_at world (method_now state.method sta
   go None e = refl
   go (Some found) e =
       subst (λ (m : MethodId). is_built_instruction world m found.0 ≡ true) (sym own)
-      (and_parts (not (is_call_or_new found.0)) (is_built_instruction world state.method found.0)
+      (and_parts (not (is_call_new_or_throw found.0)) (is_built_instruction world state.method found.0)
       (instruction_is_heap world state.method (offset_now state.stage) found h.method (ap (λ (m : MethodId). instruction_at world m (offset_now state.stage)) (sym own) ∙ e))).1
 
 -- and calls nothing
 pub calls_nothing : (world : World) (state : State) → IsHeapReached world state → CallsNothing world state
 calls_nothing world state h found e =
     let own : method_now state.method state.stage ≡ state.method = method_is_own state.method state.stage h.alone in
-    none (is_call_or_new found.0)
-    (and_parts (not (is_call_or_new found.0)) (is_built_instruction world state.method found.0)
+    none (is_call_new_or_throw found.0)
+    (and_parts (not (is_call_new_or_throw found.0)) (is_built_instruction world state.method found.0)
     (instruction_is_heap world state.method (offset_now state.stage) found h.method (ap (λ (m : MethodId). instruction_at world m (offset_now state.stage)) (sym own) ∙ e))).0
   where
     none : (b : Bool) → not b ≡ true → b ≡ false
@@ -68,12 +67,11 @@ calls_nothing world state h found e =
     none false is = refl
 
 pub at_ints : (world : World) (state : State) → IsHeapReached world state → next_is_int world state ≡ true → IsAtInts world state
-at_ints world state h ints = record { reached = h.reached; unhandled = h.unhandled; next = ints }
+at_ints world state h ints = record { reached = h.reached; next = ints }
 
 pub at_references : (world : World) (state : State) → IsHeapReached world state → next_is_int world state ≡ false → IsAtReferences world state
 at_references world state h next = record {
   reached = h.reached;
-  unhandled = h.unhandled;
   linked = h.linked;
   lazy = h.lazy;
   known = h.known;
@@ -103,8 +101,6 @@ goes_on_reached world bounds state choice range h next has pool =
     known is = record {
       reached = reached_sound world after is.sound pool;
       alone = alone;
-      unhandled = alone_unhandled world after.method after.stage alone
-          (subst (HasNoHandlers world) (sym keeps.method) (unhandled_alone world state.method state.stage h.alone h.unhandled));
       linked = h.linked;
       method = subst (λ (m : MethodId). is_heap_method world m ≡ true) (sym keeps.method) h.method;
       lazy = is.lazy;

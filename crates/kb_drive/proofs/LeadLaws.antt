@@ -1,5 +1,5 @@
 -- The int steps lead on, by the laws of kb_stepint: what is seen of an input stays, and fewer takes can follow.
-use Rattle.std.proofs.Common.{◌≡◌, ℕ, ◌+◌, ◌-◌, ◌*◌, ◌<◌, ◌≤◌, ℤ, Bool, true, false, List, [], ◌∷◌, ◌++◌, length, take, nat_le, refl, sym, ap, subst, ◌∙◌, if◌then◌else◌, arith}
+use Rattle.std.proofs.Common.{◌≡◌, ℕ, ◌+◌, ◌-◌, ◌*◌, ◌<◌, ◌≤◌, ℤ, Bool, true, false, List, [], ◌∷◌, ◌++◌, drop, length, take, nat_le, refl, sym, ap, subst, ◌∙◌, if◌then◌else◌, arith}
 use Rattle.std.specs.List.{filter_map}
 use Rattle.std.specs.Option.{option_map_or}
 use Rattle.std.proofs.lemmas.Bool.{leb-false}
@@ -43,10 +43,12 @@ use Rattle.kb_stepint.specs.Laws.{IsAtInts}
 use Rattle.kb_ways.specs.Simulation.{GetsOn}
 use Rattle.kb_stepint.specs.Takes.{taken, reads_argument}
 use Rattle.kb_ways.specs.Plans.{takes_next, takes_up, carried_out}
-use Rattle.kb_ways.specs.Ways.{Take, Way, Goes as WayGoes, Jumps, Enters, Leaves, Throws, Fails, carries_out, ill_typed, resumes, went}
-use Rattle.kb_frames.specs.Calls.{called_stage, left, left_stage}
+use Rattle.kb_ways.specs.Ways.{OfClass, Take, There, Way, Goes as WayGoes, Jumps, Enters, Leaves, Throws, ThrowsThere, Fails, carries_out, ill_typed, object_value, resumes, went}
+use Rattle.kb_frames.specs.Calls.{back_to, called_stage, landed, left, left_stage}
+use Rattle.kb_frames.specs.Making.{with_made}
 use Rattle.kb_frames.specs.declared.value.SymValue.{SymValue}
-use Rattle.kb_ways.proofs.CallLaws.{entered_has, returned_has}
+use Rattle.kb_frames.specs.declared.value.SymValue.TheVariants.{New}
+use Rattle.kb_ways.proofs.CallLaws.{entered_has, returned_has, thrown_has}
 use Rattle.kb_ways.proofs.GrowLaws.{Grows, all_asked_grows, front_itself, if_has, option_has, HasMore}
 use Rattle.kb_stepint.proofs.AddedLaws.{adds}
 use Rattle.kb_stepint.proofs.KeepLaws.{kept, reads, takes_next_stays, effect_makes}
@@ -137,10 +139,12 @@ called_runs : (world : World) (method : MethodId) (arguments rest : List SymValu
 called_runs world method arguments rest (Begins read) running = absurd running
 called_runs world method arguments rest (Runs frame callers) running = tt
 
-left_runs : (stage : Stage) → IsRunning stage → IsRunning (left_stage stage)
-left_runs (Begins read) running = absurd running
-left_runs (Runs frame []) running = tt
-left_runs (Runs frame (caller ∷ more)) running = tt
+left_runs : (count : ℕ) (stage : Stage) → IsRunning stage → IsRunning (left_stage count stage)
+left_runs count (Begins read) running = absurd running
+left_runs count (Runs frame callers) running = go (drop count (frame ∷ callers)) where
+  go : (frames : List SymFrame) → IsRunning (back_to (Runs frame callers) frames)
+  go [] = tt
+  go (first ∷ others) = tt
 
 pub begun_runs : (world : World) (state : State) (stage : Stage) → IsRunning (begun_stage world state stage)
 begun_runs world state (Begins read) = tt
@@ -165,8 +169,15 @@ module _ (world : World) (bounds : Bounds) (old : State) where
     went_few next state (Enters method arguments rest) running =
         entered_has Few world bounds state method arguments rest (within, few_at world state.method (called_stage world method arguments rest state.stage) (called_runs world method arguments rest state.stage running)) tt
     went_few next state (Leaves value) running =
-        returned_has Few world state value tt (λ caller more waits. carries_few (left state) (resumes world value) (left_runs state.stage running)) tt
-    went_few next state (Throws class) running = tt
+        returned_has Few world state value tt (λ caller more waits. carries_few (left 1 state) (resumes world value) (left_runs 1 state.stage running)) tt
+    went_few next state (Throws class) running =
+        thrown_has Few world bounds state (OfClass class) tt
+        (λ count target n frame callers is. carries_few (landed count (New (length state.made)) (with_made world state class)) (λ (f : SymFrame). record f { at = target; transfers = n })
+        (framed_runs (λ (f : SymFrame). record f { stack = New (length state.made) ∷ [] }) (left_stage count state.stage) (left_runs count state.stage running))) tt tt
+    went_few next state (ThrowsThere object kind) running =
+        thrown_has Few world bounds state (There object kind) tt
+        (λ count target n frame callers is. carries_few (landed count (object_value object) state) (λ (f : SymFrame). record f { at = target; transfers = n })
+        (framed_runs (λ (f : SymFrame). record f { stack = object_value object ∷ [] }) (left_stage count state.stage) (left_runs count state.stage running))) tt tt
     went_few next state Fails running = tt
 
     answers_few : (choice : Choice) (state : State) (found : Instr × ℕ) → IsRunning state.stage → Few (carried_out plan_of world bounds choice state found)

@@ -44,7 +44,7 @@ use Rattle.kb_stepref.proofs.FirstReadLaws.{IsAskedAt, asked}
 use Rattle.kb_stepref.proofs.ReachedLaws.{now_known}
 use Rattle.kb_ways.proofs.KeptLaws.{reference_is, returns_has, kept_more, kept_there}
 use Rattle.kb_stepref.proofs.SoundLaws.{answered_method, answered_stage, none_asked}
-use Rattle.kb_drive.specs.HeapMethods.{is_call_or_new}
+use Rattle.kb_drive.specs.HeapMethods.{is_call_new_or_throw}
 use Rattle.kb_drive.specs.Steps.{EndsIn}
 use Rattle.kb_drive.proofs.EndLaws.{LeavesIn, ill_ends, went_ends}
 use Rattle.kb_picture.specs.declared.choice.Choice.{Choice}
@@ -72,7 +72,7 @@ stack_there world state (Runs frame callers) is = is.0.stack
 -- the next instruction, where there is one, calls nothing and makes no object
 abbrev pub CallsNothing : World → State → Type 0
 CallsNothing world state =
-    (found : Instr × ℕ) → instruction_at world (method_now state.method state.stage) (offset_now state.stage) ≡ Some found → is_call_or_new found.0 ≡ false
+    (found : Instr × ℕ) → instruction_at world (method_now state.method state.stage) (offset_now state.stage) ≡ Some found → is_call_new_or_throw found.0 ≡ false
 
 -- where another state stands at the same place
 pub calls_same : (world : World) (old new : State) → new.method ≡ old.method → new.stage ≡ old.stage → CallsNothing world old → CallsNothing world new
@@ -133,7 +133,7 @@ module _ (world : World) (state : State) (none : state.picture.locs ≡ []) (sta
       returns_has PlanLeaves world state value
       (λ type. sym_in world (kept_in type value state).0 (kept_in type value state).1 (ap (λ (s : State). s.picture.locs) (kept_more type value state).rest ∙ none) (kept_there world state type value there)) tt
 
-  pub plan_leaves : (instr : Instr) → is_call_or_new instr ≡ false → PlanLeaves (plan_of world state Only instr)
+  pub plan_leaves : (instr : Instr) → is_call_new_or_throw instr ≡ false → PlanLeaves (plan_of world state Only instr)
   plan_leaves (instrs.LoadRef k) calls = planned_leaves (reference (cond (is_local world state k) (local_in state.stage k) None)) _ (λ value. tt)
   plan_leaves (instrs.StoreRef k) calls = planned_leaves (a_reference (stack_of state.stage)) _ (λ value. local_leaves k value _)
   plan_leaves (instrs.IfSame want target) calls = planned_leaves (two_references (stack_of state.stage)) _ (λ t. branch_leaves _ target 2)
@@ -148,6 +148,7 @@ module _ (world : World) (state : State) (none : state.picture.locs ≡ []) (sta
   plan_leaves (instrs.Static entry) calls = absurd (true≢false calls)
   plan_leaves (instrs.Interface entry) calls = absurd (true≢false calls)
   plan_leaves (instrs.New entry) calls = absurd (true≢false calls)
+  plan_leaves instrs.Throw calls = absurd (true≢false calls)
   plan_leaves _ calls = tt
 
 -- ---- endings

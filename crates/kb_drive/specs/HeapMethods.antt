@@ -19,17 +19,18 @@ use Rattle.kb_ways.specs.Built.{is_built_instruction}
 abbrev pub is_none_or_value : Option JType → Bool
 is_none_or_value result = option_map_or has_slot_type result true
 
--- invokevirtual, invokespecial, invokestatic, invokeinterface and new
-abbrev pub is_call_or_new : Instr → Bool
-is_call_or_new (instrs.Virtual entry) = true
-is_call_or_new (instrs.Special entry) = true
-is_call_or_new (instrs.Static entry) = true
-is_call_or_new (instrs.Interface entry) = true
-is_call_or_new (instrs.New entry) = true
-is_call_or_new _ = false
+-- invokevirtual, invokespecial, invokestatic, invokeinterface, new and athrow
+abbrev pub is_call_new_or_throw : Instr → Bool
+is_call_new_or_throw (instrs.Virtual entry) = true
+is_call_new_or_throw (instrs.Special entry) = true
+is_call_new_or_throw (instrs.Static entry) = true
+is_call_new_or_throw (instrs.Interface entry) = true
+is_call_new_or_throw (instrs.New entry) = true
+is_call_new_or_throw instrs.Throw = true
+is_call_new_or_throw _ = false
 
 abbrev pub is_heap_instruction : World → MethodId → Instr → Bool
-is_heap_instruction world id instr = not (is_call_or_new instr) && is_built_instruction world id instr
+is_heap_instruction world id instr = not (is_call_new_or_throw instr) && is_built_instruction world id instr
 
 abbrev pub is_heap_code : World → MethodId → MethodCode → Bool
 is_heap_code world id code = has_none code.handlers && list_all (λ (item : ℕ × Instr). is_heap_instruction world id item.1) code.listing.items

@@ -8,14 +8,13 @@ use Rattle.kb_picture.specs.declared.choice.Init.TheVariants.{Lazy}
 use Rattle.kb_frames.specs.declared.value.Outcome.{Outcome}
 use Rattle.kb_frames.specs.declared.value.Outcome.TheVariants.{Asks, Goes, Ends, Cut}
 use Rattle.kb_frames.specs.State.{State}
-use Rattle.kb_ways.specs.Reached.{HaveNoHandlers, IsAlone, IsReached}
+use Rattle.kb_ways.specs.Reached.{IsAlone, IsReached}
 use Rattle.kb_drive.specs.HeapMethods.{is_heap_method}
 
 pub record IsHeapReached (world : World) (state : State) : Type 0 where
   pub reached : IsReached world state
-  -- no method was called, and no method of its frames has handlers
+  -- no method was called
   pub alone : IsAlone state.method state.stage
-  pub unhandled : HaveNoHandlers world state.method state.stage
   pub linked : IsLinked world
   pub method : is_heap_method world state.method ≡ true
   -- every object is chosen when its reference is read, and none is left open

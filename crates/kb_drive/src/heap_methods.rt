@@ -2,7 +2,7 @@
 ghost use Rattle.std.specs.Prelude.{◌≡◌};
 ghost use Rattle.std.specs.List.{list_all};
 ghost use Rattle.kb_classes.specs.Slots.{has_slot_type};
-ghost use Rattle.kb_drive.specs.HeapMethods.{is_call_or_new, is_heap_code, is_heap_info, is_heap_instruction, is_heap_method, is_none_or_value};
+ghost use Rattle.kb_drive.specs.HeapMethods.{is_call_new_or_throw, is_heap_code, is_heap_info, is_heap_instruction, is_heap_method, is_none_or_value};
 
 use kb_class::{MethodCode, MethodId, MethodInfo};
 use kb_code::Instr;
@@ -89,15 +89,15 @@ fn is_heap_code(world: &World, method: MethodId, code: &MethodCode) -> bool
 fn is_heap_instruction(world: &World, method: MethodId, instr: &Instr) -> bool
     ensures { result ≡ is_heap_instruction world.now method instr.now }
 {
-    if is_call_or_new(instr) {
+    if is_call_new_or_throw(instr) {
         return false;
     }
     is_built_instruction(world, method, instr)
 }
 
-// Calls and new objects are left to the steps for now.
-fn is_call_or_new(instr: &Instr) -> bool
-    ensures { result ≡ is_call_or_new instr.now }
+// Calls, new objects and athrow are left to the steps for now.
+fn is_call_new_or_throw(instr: &Instr) -> bool
+    ensures { result ≡ is_call_new_or_throw instr.now }
 {
     matches!(
         instr,
@@ -106,5 +106,6 @@ fn is_call_or_new(instr: &Instr) -> bool
             | Instr::Static(_)
             | Instr::Interface(_)
             | Instr::New(_)
+            | Instr::Throw
     )
 }

@@ -36,12 +36,10 @@ module _ {A : Type 0} where
   pub from_top : (xs : List A) (n : ℕ) (d : A) → n < length xs → slice_get (reverse xs) n ≡ Some (get_or xs (length xs - 1 - n) d)
   from_top xs n d h = slice_get-get_or (reverse xs) n d (omega (arith, h, length-reverse xs)) ∙ ap Some (get_or-reverse xs n d h)
 
-  -- that of the top, among the values from the lowest on
-  pub last_is : (xs : List A) → slice_get (reverse xs) 0 ≡ slice_get xs (length xs - 1)
-  last_is [] = refl
-  last_is (x ∷ xs) =
-      let same : length (x ∷ xs) - 1 - 0 ≡ length (x ∷ xs) - 1 = omega arith in
-      from_top (x ∷ xs) 0 x (omega arith) ∙ ap (λ (n : ℕ). Some (get_or (x ∷ xs) n x)) same ∙ sym (slice_get-get_or (x ∷ xs) (length (x ∷ xs) - 1) x (omega arith))
+  -- that at a place from the top down
+  pub so_deep : (xs : List A) (n : ℕ) → n < length xs → slice_get (reverse xs) n ≡ slice_get xs (length xs - 1 - n)
+  so_deep [] n h = absurd (omega (arith, h))
+  so_deep (x ∷ xs) n h = from_top (x ∷ xs) n x h ∙ sym (slice_get-get_or (x ∷ xs) (length (x ∷ xs) - 1 - n) x (omega (arith, h)))
 
   take_left : (xs ys : List A) (n : ℕ) → n ≡ length xs → take n (xs ++ ys) ≡ xs
   take_left [] ys zero e = refl

@@ -1,6 +1,7 @@
 //! The frames of a state (The Java Virtual Machine Specification, Java SE 8 Edition, section 2.6).
-ghost use Rattle.std.specs.Prelude.{◌≡◌, [], ◌∷◌, drop, length, option_map, reverse, slice_get, slice_set, take, Some, IfOk, IfSome, IfNone, OnOk, OnErr};
-ghost use Rattle.kb_frames.specs.declared.frame.SymFrame.{SymFrame as PlainFrame};
+ghost use Rattle.std.specs.Prelude.{◌≡◌, [], ◌∷◌, drop, length, reverse, slice_get, slice_set, take, Some, IfOk, IfSome, IfNone, OnOk, OnErr};
+ghost use Rattle.std.specs.Option.{option_copied};
+ghost use Rattle.kb_frames.specs.Calls.{frame_told};
 
 use crate::NoMemory;
 use crate::value::SymValue;
@@ -69,6 +70,17 @@ impl SymStack {
         }
     }
 
+    /// Has nothing but the value.
+    pub(crate) fn hold(&mut self, value: SymValue) -> Result<(), NoMemory>
+        ensures { OnOk result (self.new ≡ value ∷ []) }
+    {
+        self.values.clear();
+        match self.values.push(value) {
+            Ok(()) => Ok(()),
+            Err(_) => Err(NoMemory),
+        }
+    }
+
     /// So many values from the top, the lowest one first.
     #[tactic(auto, using(crate::proofs::StackLaws::top_right))]
     pub(crate) fn top(&self, count: usize) -> &[SymValue]
@@ -100,7 +112,28 @@ pub(crate) struct SymFrame {
     pub(crate) transfers: u32,
 }
 
+/// What is told of a frame: its method, the offset of its instruction, how many values its stack has, and how often it was
+/// transferred to an offset not above its own.
+#[derive(Clone, Copy)]
+pub struct FrameAt {
+    pub method: MethodId,
+    pub at: u32,
+    pub height: usize,
+    pub transfers: u32,
+}
+
 impl SymFrame {
+    pub(crate) fn told(&self) -> FrameAt
+        ensures { result ≡ frame_told self.now }
+    {
+        FrameAt {
+            method: self.method,
+            at: self.at,
+            height: self.stack.height(),
+            transfers: self.transfers,
+        }
+    }
+
     pub(crate) fn copied(&self, alloc: Global) -> Result<SymFrame, NoMemory>
         ensures { IfOk result (λ copy. copy ≡ self.now) }
     {
@@ -166,15 +199,16 @@ impl SymCallers {
         self.frames.len()
     }
 
-    /// The method of the nearest one, and the height of its stack.
-    #[tactic(auto, using(crate::proofs::StackLaws::last_is))]
-    pub(crate) fn nearest(&self) -> Option<(MethodId, usize)>
-        ensures { result ≡ option_map (λ (caller : PlainFrame). (caller.method, length caller.stack)) (slice_get self.now 0) }
+    /// The one at that place, the nearest being 0.
+    #[tactic(auto, using(crate::proofs::StackLaws::so_deep))]
+    pub(crate) fn get(&self, place: usize) -> Option<&SymFrame>
+        ensures { option_copied result ≡ slice_get self.now place }
     {
-        match self.frames.as_slice().last() {
-            Some(caller) => Some((caller.method, caller.stack.height())),
-            None => None,
+        let count = self.frames.len();
+        if place >= count {
+            return None;
         }
+        self.frames.as_slice().get(count - 1 - place)
     }
 
     pub(crate) fn push(&mut self, frame: SymFrame) -> Result<(), NoMemory>
@@ -186,12 +220,18 @@ impl SymCallers {
         }
     }
 
-    /// Takes off the nearest one.
-    pub(crate) fn pop(&mut self) -> Option<SymFrame>
-        ensures some { IfSome result (λ frame. self.old ≡ frame ∷ self.new) }
-        ensures none { IfNone result (self.old ≡ []) }
-        ensures left { IfNone result (self.new ≡ []) }
+    /// Takes off the one behind so many of the nearest, and these. Where there are not so many, all stay.
+    #[tactic(auto, using(crate::proofs::StackLaws::rest_left))]
+    pub(crate) fn pop_past(&mut self, count: usize) -> Option<SymFrame>
+        ensures some { IfSome result (λ frame. drop count self.old ≡ frame ∷ self.new) }
+        ensures none { IfNone result (drop count self.old ≡ []) }
+        ensures stay { IfNone result (self.new ≡ self.old) }
     {
+        let all = self.frames.len();
+        if count >= all {
+            return None;
+        }
+        self.frames.truncate(all - count);
         self.frames.pop()
     }
 }

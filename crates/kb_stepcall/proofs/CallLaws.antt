@@ -46,7 +46,6 @@ use Rattle.kb_frames.specs.States.{Each, IsSymValue}
 use Rattle.kb_frames.proofs.ItemLaws.{each_append, each_cons, each_drop, each_rest, no_items}
 use Rattle.kb_ways.specs.Identity.{same}
 use Rattle.kb_ways.specs.Plans.{Planned, followed, plain, planned}
-use Rattle.kb_ways.specs.Reached.{HaveNoHandlers}
 use Rattle.kb_ways.specs.Simulation.{IsOutcome}
 use Rattle.kb_ways.specs.Ways.{Take, Way, Enters, Fails, Throws, went, with_stack}
 use Rattle.kb_ways.proofs.GrowLaws.{interned_extends}
@@ -94,7 +93,7 @@ there_at world state args place each = go (reference (slice_get args place)) ref
 -- ---- in a frame
 
 module _ (world : World) (bounds : Bounds) (base : State) (frame : SymFrame) (callers : List SymFrame) (sound : Sound world (record base { stage = Runs frame callers })) (known : base.picture.locs ≡ [])
-    (unhandled : HaveNoHandlers world base.method (Runs frame callers)) (input : Input) (correct : IsTypeCorrect world base.method input) (c : Config)
+    (input : Input) (correct : IsTypeCorrect world base.method input) (c : Config)
     (stands : StandsFor (setting_of world bounds) (record base { stage = Runs frame callers }) input c) (next : ℕ) where
   abbrev s : Setting
   s = setting_of world bounds
@@ -324,4 +323,4 @@ module _ (world : World) (bounds : Bounds) (base : State) (frame : SymFrame) (ca
       let plan : Planned = invokes call world state entry in
       let is : IsPlan (invoke call entry s next c) plan = invoked_is call entry in
       subst (λ (st : State). Follows (went world bounds next st plan.way)) (sym is.2)
-      (went_is world bounds state sound input c stands frame callers unhandled next is.0 is.1 state.when (framed_later is.0 is.1) (waiting_later is.0 is.1) stored plan.way (e ∙ is.3))
+      (went_is world bounds state sound input c stands frame callers sound.stage next is.0 is.1 state.when (framed_later is.0 is.1) (waiting_later is.0 is.1) stored plan.way (e ∙ is.3))

@@ -33,7 +33,6 @@ use Rattle.kb_frames.specs.Making.{new_sym_object, with_made}
 use Rattle.kb_frames.specs.StandsFor.{FrameStandsFor, FramesStandFor, HeapStandsFor, IsInstanceOf, IsKept, StandsFor, beginning_of, reading_at, value_of_sym, values_of_sym, written_by}
 use Rattle.kb_frames.specs.State.{State}
 use Rattle.kb_ways.specs.Plans.{Planned, followed, plain, planned}
-use Rattle.kb_ways.specs.Reached.{HaveNoHandlers}
 use Rattle.kb_ways.specs.Simulation.{IsOutcome}
 use Rattle.kb_ways.specs.Ways.{Take, Goes, Fails, carries_out, ill_typed, went, with_stack}
 use Rattle.kb_ways.proofs.GrowLaws.{interned_extends}
@@ -44,7 +43,7 @@ use Rattle.kb_stepcall.specs.Calls.{here}
 use Rattle.kb_stepcall.specs.Making.{makes, makes_object}
 
 module _ (world : World) (bounds : Bounds) (base : State) (frame : SymFrame) (callers : List SymFrame) (sound : Sound world (record base { stage = Runs frame callers }))
-    (unhandled : HaveNoHandlers world base.method (Runs frame callers)) (input : Input) (c : Config)
+    (input : Input) (c : Config)
     (stands : StandsFor (setting_of world bounds) (record base { stage = Runs frame callers }) input c) (next : ℕ) where
   abbrev s : Setting
   s = setting_of world bounds
@@ -71,7 +70,7 @@ module _ (world : World) (bounds : Bounds) (base : State) (frame : SymFrame) (ca
   Follows take = (i : IsInstanceOf take.state input) → IsOutcome world bounds c take.state input i take.outcome
 
   ill : step s c ≡ ill_typed_step s c → Follows (ill_typed world state)
-  ill e = ill_typed_is world bounds state sound input c stands frame callers unhandled next state.nodes (Extends-refl state.nodes) state.when framed waiting e
+  ill e = ill_typed_is world bounds state sound input c stands frame callers sound.stage next state.nodes (Extends-refl state.nodes) state.when framed waiting e
 
   -- ---- an object of the class
 
@@ -109,7 +108,7 @@ module _ (world : World) (bounds : Bounds) (base : State) (frame : SymFrame) (ca
 
     number_is : Ref (length c.heap.objects) ≡ value_of_sym later value
     unfolding reading_at
-    number_is = ap Ref (heap_length world bounds state sound input c stands frame callers unhandled next state.nodes (Extends-refl state.nodes) state.when framed waiting)
+    number_is = ap Ref (heap_length world bounds state sound input c stands frame callers sound.stage next state.nodes (Extends-refl state.nodes) state.when framed waiting)
 
     stack_is : behind.stack ≡ values_of_sym later symbolic.stack
     stack_is =
@@ -123,7 +122,7 @@ module _ (world : World) (bounds : Bounds) (base : State) (frame : SymFrame) (ca
     heap_stands : HeapStandsFor later new first heap
     unfolding reading_at
     heap_stands =
-        let h = made_heap world bounds state sound input c stands frame callers unhandled next state.nodes (Extends-refl state.nodes) state.when framed waiting class in
+        let h = made_heap world bounds state sound input c stands frame callers sound.stage next state.nodes (Extends-refl state.nodes) state.when framed waiting class in
         record { made = h.made; like = h.like; cells = h.cells; kept = h.kept; others = h.others }
 
     abbrev before : List Slot

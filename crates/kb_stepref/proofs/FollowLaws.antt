@@ -28,7 +28,6 @@ use Rattle.kb_picture.specs.Shapes.{HasShape}
 use Rattle.kb_picture.specs.WellTyped.{is_reference_type}
 use Rattle.kb_frames.specs.declared.state.Stage.{Stage}
 use Rattle.kb_frames.specs.declared.state.Stage.TheVariants.{Runs}
-use Rattle.kb_ways.specs.Reached.{HaveNoHandlers}
 use Rattle.kb_frames.specs.declared.value.Cell.{Cell}
 use Rattle.kb_frames.specs.declared.value.Cell.TheVariants.{Read}
 use Rattle.kb_frames.specs.declared.value.SymValue.{SymValue}
@@ -152,10 +151,6 @@ module _ (world : World) (bounds : Bounds) (old : State) (choice : Choice) (smal
       none : argument_next world old.method old.stage ≡ None
       none = ap (argument_next world old.method) from.running
 
-      -- an answer leaves the frames
-      unhandled : HaveNoHandlers world new.method (Runs from.frame from.callers)
-      unhandled = subst (λ (m : MethodId). HaveNoHandlers world m (Runs from.frame from.callers)) (sym method_same) (subst (HaveNoHandlers world old.method) from.running at.unhandled)
-
       asked_again : asked_by world new (instrs.GetField from.entry) ≡ None
       asked_again =
           ap (option_and_then (λ (field : FieldSlot). asks_field world new field (slice_get (stack_of new.stage) 0))) named
@@ -180,8 +175,8 @@ module _ (world : World) (bounds : Bounds) (old : State) (choice : Choice) (smal
 
       field_follows : FollowsAt world bounds input c (takes_up plan_of world bounds Only new)
       field_follows i =
-          takes_up_follows world bounds new from.frame from.callers (stage_same ∙ from.running) unhandled heap.sound heap.known
-          (answer_ordered world choice old slot type (pool_ordered old.nodes at.reached.sound.pool)) input (subst (λ (m : MethodId). IsTypeCorrect world m input) (sym method_same) correct) c
+          takes_up_follows world bounds new from.frame from.callers (stage_same ∙ from.running) heap.sound heap.known
+          (answer_ordered world choice old slot type (pool_ordered old.nodes at.reached.sound.pool)) at.linked input (subst (λ (m : MethodId). IsTypeCorrect world m input) (sym method_same) correct) c
           (new_stands (instance_before new (takes_up plan_of world bounds Only new).state input (takes_up_untold world bounds new) heap.sound.conditions i))
           (ap (nat_le bounds.run.steps) (answered_carried world choice old slot type) ∙ from.within) new_told i
 

@@ -6,6 +6,10 @@ use Rattle.kb_code.specs.declared.instruction.Instr.{Instr}
 use Rattle.kb_code.specs.declared.instruction.Instr.TheVariants as instrs
 use Rattle.kb_heap.specs.declared.bounds.Bound.{Bound}
 use Rattle.kb_heap.specs.declared.bounds.Bounds.{Bounds}
+use Rattle.kb_class.specs.Platform.{throwable}
+use Rattle.kb_classes.specs.Subtypes.{fits}
+use Rattle.kb_names.specs.declared.types.ExactType.{ExactType}
+use Rattle.kb_names.specs.declared.types.JType.TheVariants as types
 use Rattle.kb_classes.specs.World.{World}
 use Rattle.kb_classes.specs.declared.slots.FieldSlot.{FieldSlot}
 use Rattle.kb_names.specs.declared.types.JType.{JType}
@@ -34,20 +38,20 @@ use Rattle.kb_frames.specs.declared.value.Cell.TheVariants.{Written}
 use Rattle.kb_frames.specs.declared.value.SymValue.{SymValue}
 use Rattle.kb_frames.specs.declared.value.SymValue.TheVariants.{Int, Null, Obj, Literal, New, Loc}
 use Rattle.kb_frames.specs.FirstReads.{cells_chosen, first_int, first_reference, found_in, value_chosen}
-use Rattle.kb_frames.specs.Heaps.{with_cell, with_made_value}
+use Rattle.kb_frames.specs.Heaps.{exact_type_of, with_cell, with_made_value}
 use Rattle.kb_frames.specs.Lent.{begun, local_in, stack_of, with_nodes}
 use Rattle.kb_frames.specs.Making.{with_made}
 use Rattle.kb_frames.specs.Next.{method_now, offset_now}
 use Rattle.kb_frames.specs.State.{State}
 use Rattle.kb_ways.specs.Kept.{kept_in, is_of_kind}
 use Rattle.kb_ways.specs.Simulation.{AddsComparisons, Keeps}
-use Rattle.kb_ways.specs.Ways.{Take, Fails, ill_typed, went}
+use Rattle.kb_ways.specs.Ways.{ObjectThere, OfPicture, OfRun, Take, Fails, ill_typed, went}
 use Rattle.kb_ways.proofs.KeepLaws.{same_when, went_when, Stays, stays_on, went_stays}
 use Rattle.kb_ways.proofs.GrowLaws.{front_itself, front_of_front, if_has, interned_extends, option_has, HasMore}
 use Rattle.kb_stepcall.specs.Calls.{invokes}
 use Rattle.kb_stepcall.proofs.PlanLaws.{invokes_has, makes_has}
 use Rattle.kb_ways.specs.Plans.{Planned, plain, planned, carried_out, takes_next, takes_up, returns_value}
-use Rattle.kb_stepref.specs.Effects.{got, is_local, plan_of, put, put_kept, put_where, puts_kept}
+use Rattle.kb_stepref.specs.Effects.{got, is_local, plan_of, put, put_kept, put_where, puts_kept, throws_object, throws_reference}
 use Rattle.kb_stepref.specs.Fields.{field_named, has_place, held, put_in}
 use Rattle.kb_stepref.specs.Laws.{IsAtReferences}
 use Rattle.kb_ways.specs.Operands.{an_object_and_value, a_reference, reference, two_references}
@@ -159,6 +163,18 @@ module _ (world : World) (state : State) where
         term = λ z count. writes_nodes state (interned state.nodes (Const z)).0 (interned_extends state.nodes (Const z));
       }) call entry
 
+  -- athrow writes nothing
+  there_writes : (object : ObjectThere) (kind : Option ExactType) → Writes (planned state kind (throws_object world state object))
+  there_writes object kind = planned_writes kind (throws_object world state object) (λ k. if_has Writes (fits world k (types.Class throwable)) _ _ nothing nothing)
+
+  thrown_writes : (value : SymValue) → Writes (throws_reference world state value)
+  thrown_writes Null = nothing
+  thrown_writes (Obj number) = there_writes (OfPicture number) (exact_type_of state (Obj number))
+  thrown_writes (New number) = there_writes (OfRun number) (exact_type_of state (New number))
+  thrown_writes (Int term) = nothing
+  thrown_writes (Literal number) = nothing
+  thrown_writes (Loc number) = nothing
+
   made_writes : (class : List ℕ) → WritesHeap state (with_made world state class)
   made_writes class = record {
     method = refl;
@@ -177,6 +193,7 @@ module _ (world : World) (state : State) where
   plan_writes (instrs.IfNull want target) = planned_writes (a_reference (stack_of state.stage)) _ (λ value. nothing)
   plan_writes instrs.ReturnRef =
       planned_writes (a_reference (stack_of state.stage)) (returns_value world state) (λ value. returns_has Writes world state value (λ type. kept_writes type value state) nothing)
+  plan_writes instrs.Throw = planned_writes (a_reference (stack_of state.stage)) (throws_reference world state) thrown_writes
   plan_writes (instrs.GetField entry) =
       planned_writes (field_named world state entry) _ (λ field. planned_writes (a_reference (stack_of state.stage)) (got world state field) (got_writes field))
   plan_writes (instrs.PutField entry) =

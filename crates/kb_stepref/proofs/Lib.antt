@@ -24,4 +24,5 @@ pub mod ReadInstances
 pub mod ReferenceLaws
 pub mod SeenLaws
 pub mod SoundLaws
+pub mod StringLaws
 pub mod WrittenLaws

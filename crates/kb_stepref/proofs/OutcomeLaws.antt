@@ -11,10 +11,11 @@ use Rattle.kb_heap.specs.declared.bounds.Bound.TheVariants.{Steps}
 use Rattle.kb_heap.specs.declared.bounds.Bounds.{Bounds}
 use Rattle.kb_heap.specs.declared.heap.Input.{Input}
 use Rattle.kb_classes.specs.World.{World}
+use Rattle.kb_link.specs.Links.{IsLinked}
 use Rattle.kb_names.specs.declared.types.JType.{JType}
 use Rattle.kb_semantics.specs.Config.{Setting, Config, Outcome, instruction_at}
 use Rattle.kb_semantics.specs.Inputs.{IsTypeCorrect}
-use Rattle.kb_semantics.specs.Instructions.{BySelection, Special, Static, get_field, if_null, if_same, load_reference, push_null, put_field, return_reference, store_reference}
+use Rattle.kb_semantics.specs.Instructions.{BySelection, Special, Static, get_field, if_null, if_same, load_reference, push_null, put_field, return_reference, store_reference, throw}
 use Rattle.kb_semantics.specs.Looks.{stored_by, stores}
 use Rattle.kb_semantics.specs.Step.{effect, first_heap, step}
 use Rattle.kb_terms.proofs.Values.{Extends-refl}
@@ -31,12 +32,10 @@ use Rattle.kb_frames.specs.Next.{argument_next, instruction_next, method_now, of
 use Rattle.kb_frames.specs.StandsFor.{FrameStandsFor, FramesStandFor, IsInstanceOf, StandsFor, reading_at}
 use Rattle.kb_frames.specs.State.{State}
 use Rattle.kb_frames.proofs.RunLaws.{counters_agree}
-use Rattle.kb_ways.specs.Reached.{HaveNoHandlers}
 use Rattle.kb_ways.specs.Simulation.{IsOutcome}
 use Rattle.kb_ways.specs.Ways.{Take, ill_typed, went}
 use Rattle.kb_ways.proofs.BegunLaws.{place_same}
 use Rattle.kb_ways.proofs.StepLaws.{step_taken, stores_taken}
-use Rattle.kb_ways.proofs.AloneLaws.{begun_unhandled}
 use Rattle.kb_ways.proofs.OutcomeStands.{Running, running}
 use Rattle.kb_ways.proofs.OutcomeValues.{heap_later, reading_later}
 use Rattle.kb_ways.proofs.OutcomeWays.{ill_typed_is, went_is}
@@ -44,12 +43,12 @@ use Rattle.kb_ways.proofs.PastLaws.{cut_by_steps}
 use Rattle.kb_ways.proofs.SoundLaws.{Sound, begun_sound, sound_reached}
 use Rattle.kb_ways.proofs.ValueLaws.{IsOrdered, pool_ordered}
 use Rattle.kb_ways.specs.Plans.{Planned, carried_out, followed, takes_next, takes_up}
-use Rattle.kb_stepref.specs.Effects.{branches_null, branches_same, gets, loads, plan_of, pushes_null, returns_reference, stores as stores_sym}
+use Rattle.kb_stepref.specs.Effects.{branches_null, branches_same, gets, loads, plan_of, pushes_null, returns_reference, stores as stores_sym, throws_top}
 use Rattle.kb_ways.specs.Built.{is_reference_instruction}
 use Rattle.kb_stepref.specs.Laws.{IsAtReferences}
 use Rattle.kb_ways.specs.declared.question.Question.TheVariants.{Reads}
 use Rattle.kb_stepref.specs.Questions.{asked_at, asked_by, question_of}
-use Rattle.kb_stepref.proofs.OutcomePlans.{IsPlan, branches_null_is, branches_same_is, gets_is, loads_is, pushes_null_is, returns_reference_is, stores_is}
+use Rattle.kb_stepref.proofs.OutcomePlans.{IsPlan, branches_null_is, branches_same_is, gets_is, loads_is, pushes_null_is, returns_reference_is, stores_is, throws_top_is}
 use Rattle.kb_stepref.proofs.PutLaws.{puts_follow}
 use Rattle.kb_stepcall.proofs.CallLaws.{invokes_follow}
 use Rattle.kb_stepcall.proofs.MakeLaws.{makes_object_follows}
@@ -58,7 +57,7 @@ use Rattle.kb_picture.specs.declared.choice.Choice.TheVariants.{Only}
 -- ---- in a frame
 
 module _ (world : World) (bounds : Bounds) (base : State) (frame : SymFrame) (callers : List SymFrame) (sound : Sound world (record base { stage = Runs frame callers })) (known : base.picture.locs ≡ []) (ordered : IsOrdered base.nodes)
-    (unhandled : HaveNoHandlers world base.method (Runs frame callers)) (input : Input) (correct : IsTypeCorrect world base.method input) (c : Config)
+    (linked : IsLinked world) (input : Input) (correct : IsTypeCorrect world base.method input) (c : Config)
     (stands : StandsFor (setting_of world bounds) (record base { stage = Runs frame callers }) input c) where
   abbrev s : Setting
   s = setting_of world bounds
@@ -83,25 +82,26 @@ module _ (world : World) (bounds : Bounds) (base : State) (frame : SymFrame) (ca
       → Follows (followed world bounds next plan)
   plain_follows next outcome plan is stored e =
       subst (λ (st : State). Follows (went world bounds next st plan.way)) (sym is.0)
-      (went_is world bounds state sound input c stands frame callers unhandled next state.nodes (Extends-refl state.nodes) state.when framed waiting stored plan.way (e ∙ is.1))
+      (went_is world bounds state sound input c stands frame callers sound.stage next state.nodes (Extends-refl state.nodes) state.when framed waiting stored plan.way (e ∙ is.1))
 
   -- An instruction is carried out.
   carried_follows : (next : ℕ) (instr : Instr) → is_reference_instruction instr ≡ true → asked_by world state instr ≡ None → stores s c ≡ stored_by instr s c → step s c ≡ effect instr s next c
       → Follows (followed world bounds next (plan_of world state Only instr))
-  unfolding effect push_null load_reference store_reference if_same if_null return_reference get_field put_field
+  unfolding effect push_null load_reference store_reference if_same if_null return_reference throw get_field put_field
   carried_follows next instrs.PushNull is told stored e = plain_follows next _ (pushes_null state) (pushes_null_is world bounds base frame callers sound known input correct c stands next) stored e
   carried_follows next (instrs.LoadRef k) is told stored e = plain_follows next _ (loads world state k) (loads_is world bounds base frame callers sound known input correct c stands next k) stored e
   carried_follows next (instrs.StoreRef k) is told stored e = plain_follows next _ (stores_sym world state k) (stores_is world bounds base frame callers sound known input correct c stands next k) stored e
   carried_follows next (instrs.IfSame want target) is told stored e = plain_follows next _ (branches_same state want target) (branches_same_is world bounds base frame callers sound known input correct c stands next want target) stored e
   carried_follows next (instrs.IfNull want target) is told stored e = plain_follows next _ (branches_null state want target) (branches_null_is world bounds base frame callers sound known input correct c stands next want target) stored e
   carried_follows next instrs.ReturnRef is told stored e = plain_follows next _ (returns_reference world state) (returns_reference_is world bounds base frame callers sound known input correct c stands next) stored e
+  carried_follows next instrs.Throw is told stored e = plain_follows next _ (throws_top world state) (throws_top_is world bounds base frame callers sound known input correct c stands next linked) stored e
   carried_follows next (instrs.GetField entry) is told stored e = plain_follows next _ (gets world state entry) (gets_is world bounds base frame callers sound known input correct c stands next entry told) stored e
-  carried_follows next (instrs.PutField entry) is told stored e = puts_follow world bounds base frame callers sound known ordered unhandled input correct c stands next entry stored e
-  carried_follows next (instrs.Virtual entry) is told stored e = invokes_follow world bounds base frame callers sound known unhandled input correct c stands next BySelection entry stored e
-  carried_follows next (instrs.Special entry) is told stored e = invokes_follow world bounds base frame callers sound known unhandled input correct c stands next Special entry stored e
-  carried_follows next (instrs.Static entry) is told stored e = invokes_follow world bounds base frame callers sound known unhandled input correct c stands next Static entry stored e
-  carried_follows next (instrs.Interface entry) is told stored e = invokes_follow world bounds base frame callers sound known unhandled input correct c stands next BySelection entry stored e
-  carried_follows next (instrs.New entry) is told stored e = makes_object_follows world bounds base frame callers sound unhandled input c stands next entry stored e
+  carried_follows next (instrs.PutField entry) is told stored e = puts_follow world bounds base frame callers sound known ordered input correct c stands next entry stored e
+  carried_follows next (instrs.Virtual entry) is told stored e = invokes_follow world bounds base frame callers sound known input correct c stands next BySelection entry stored e
+  carried_follows next (instrs.Special entry) is told stored e = invokes_follow world bounds base frame callers sound known input correct c stands next Special entry stored e
+  carried_follows next (instrs.Static entry) is told stored e = invokes_follow world bounds base frame callers sound known input correct c stands next Static entry stored e
+  carried_follows next (instrs.Interface entry) is told stored e = invokes_follow world bounds base frame callers sound known input correct c stands next BySelection entry stored e
+  carried_follows next (instrs.New entry) is told stored e = makes_object_follows world bounds base frame callers sound input c stands next entry stored e
   carried_follows next _ is told stored e = absurd (true≢false (sym is))
 
   module _ (within : nat_le bounds.run.steps base.carried ≡ false) where
@@ -119,7 +119,7 @@ module _ (world : World) (bounds : Bounds) (base : State) (frame : SymFrame) (ca
           → ((found : Instr × ℕ) → it ≡ Some found → (is_reference_instruction found.0 ≡ true) × (asked_by world state found.0 ≡ None))
           → Follows (option_map_or (carried_out plan_of world bounds Only state) it (ill_typed world state))
       go None at told =
-          ill_typed_is world bounds state sound input c stands frame callers unhandled 0 state.nodes (Extends-refl state.nodes) state.when framed waiting
+          ill_typed_is world bounds state sound input c stands frame callers sound.stage 0 state.nodes (Extends-refl state.nodes) state.when framed waiting
           (step_taken s c within_now None (place_is ∙ at))
       go (Some found) at told =
           carried_follows found.1 found.0 (told found refl).0 (told found refl).1 (stores_taken s c within_now (Some found) (place_is ∙ at)) (step_taken s c within_now (Some found) (place_is ∙ at))
@@ -135,7 +135,7 @@ AreTold world state =
 abbrev pub FollowsAt : World → Bounds → Input → Config → Take → Type 0
 FollowsAt world bounds input c take = (i : IsInstanceOf take.state input) → IsOutcome world bounds c take.state input i take.outcome
 
-module _ (world : World) (bounds : Bounds) (old : State) (known : old.picture.locs ≡ []) (ordered : IsOrdered old.nodes) (input : Input) (correct : IsTypeCorrect world old.method input) (c : Config)
+module _ (world : World) (bounds : Bounds) (old : State) (known : old.picture.locs ≡ []) (ordered : IsOrdered old.nodes) (linked : IsLinked world) (input : Input) (correct : IsTypeCorrect world old.method input) (c : Config)
     (within : nat_le bounds.run.steps old.carried ≡ false) where
   abbrev at_stage : Stage → State
   at_stage stage = record old { stage = stage }
@@ -145,16 +145,16 @@ module _ (world : World) (bounds : Bounds) (old : State) (known : old.picture.lo
       Sound world (at_stage stage) → StandsFor (setting_of world bounds) (at_stage stage) input c → AreTold world (at_stage stage)
       → FollowsAt world bounds input c (takes_up plan_of world bounds Only (at_stage stage))
 
-  stage_follows : (stage : Stage) (frame : SymFrame) (callers : List SymFrame) → stage ≡ Runs frame callers → HaveNoHandlers world old.method (Runs frame callers) → Taken stage
-  stage_follows stage frame callers is unhandled =
-      subst Taken (sym is) (λ sound stands told. frame_follows world bounds old frame callers sound known ordered unhandled input correct c stands within told)
+  stage_follows : (stage : Stage) (frame : SymFrame) (callers : List SymFrame) → stage ≡ Runs frame callers → Taken stage
+  stage_follows stage frame callers is =
+      subst Taken (sym is) (λ sound stands told. frame_follows world bounds old frame callers sound known ordered linked input correct c stands within told)
 
 -- The next instruction of a run whose arguments are read is taken up, where nothing is left to be told.
 pub takes_up_follows : (world : World) (bounds : Bounds) (old : State) (frame : SymFrame) (callers : List SymFrame) → old.stage ≡ Runs frame callers
-    → HaveNoHandlers world old.method (Runs frame callers) → Sound world old → old.picture.locs ≡ [] → IsOrdered old.nodes → (input : Input) → IsTypeCorrect world old.method input → (c : Config) → StandsFor (setting_of world bounds) old input c
+    → Sound world old → old.picture.locs ≡ [] → IsOrdered old.nodes → IsLinked world → (input : Input) → IsTypeCorrect world old.method input → (c : Config) → StandsFor (setting_of world bounds) old input c
     → nat_le bounds.run.steps old.carried ≡ false → AreTold world old → FollowsAt world bounds input c (takes_up plan_of world bounds Only old)
-takes_up_follows world bounds old frame callers runs unhandled sound known ordered input correct c stands within told =
-    stage_follows world bounds old known ordered input correct c within old.stage frame callers runs unhandled sound stands told
+takes_up_follows world bounds old frame callers runs sound known ordered linked input correct c stands within told =
+    stage_follows world bounds old known ordered linked input correct c within old.stage frame callers runs sound stands told
 
 -- ---- a step without a question
 
@@ -210,8 +210,7 @@ module _ (world : World) (bounds : Bounds) (old : State) (at : IsAtReferences wo
         → FollowsAt world bounds input c (if b then record { state = old; outcome = Cut Steps } else takes_up plan_of world bounds Only (begun world old))
     by_steps true e quiet = λ i. cut_by_steps world bounds old input c stands (leb-true bounds.run.steps old.carried e)
     by_steps false e quiet =
-        stage_follows world bounds old at.known (pool_ordered old.nodes at.reached.sound.pool) input correct c e (begun_stage world old old.stage) run.frame run.callers run.is
-        (subst (HaveNoHandlers world old.method) run.is (begun_unhandled world old old.stage at.unhandled))
+        stage_follows world bounds old at.known (pool_ordered old.nodes at.reached.sound.pool) at.linked input correct c e (begun_stage world old old.stage) run.frame run.callers run.is
         (begun_sound world old sound none) begun_stands (begun_told quiet)
 
   -- The next step of a state that asks nothing.

@@ -54,7 +54,6 @@ use Rattle.kb_ways.specs.Simulation.{IsOutcome}
 use Rattle.kb_ways.specs.Ways.{Take, Goes, Fails, carries_out, ill_typed, went}
 use Rattle.kb_ways.proofs.GrowLaws.{interned_extends, op_extends}
 use Rattle.kb_frames.proofs.ItemLaws.{each_drop, two_parts}
-use Rattle.kb_ways.specs.Reached.{HaveNoHandlers}
 use Rattle.kb_ways.proofs.OutcomeValues.{IsLater, frame_later, frames_later, heap_later, reading_int, reading_later, there}
 use Rattle.kb_ways.proofs.OutcomeWays.{ill_typed_is, room_same, throws_is, writes_stand}
 use Rattle.kb_ways.proofs.SoundLaws.{Sound}
@@ -76,7 +75,7 @@ record IsKeptIn (world : World) (state : State) (input : Input) (places : PlaceL
   value_is : value_of_sym (reading_at world (with_nodes state nodes) input places) kept.1 ≡ value
 
 module _ (world : World) (bounds : Bounds) (base : State) (frame : SymFrame) (callers : List SymFrame) (sound : Sound world (record base { stage = Runs frame callers })) (known : base.picture.locs ≡ []) (ordered : IsOrdered base.nodes)
-    (unhandled : HaveNoHandlers world base.method (Runs frame callers)) (input : Input) (correct : IsTypeCorrect world base.method input) (c : Config)
+    (input : Input) (correct : IsTypeCorrect world base.method input) (c : Config)
     (stands : StandsFor (setting_of world bounds) (record base { stage = Runs frame callers }) input c) (next : ℕ) where
   abbrev s : Setting
   s = setting_of world bounds
@@ -106,7 +105,7 @@ module _ (world : World) (bounds : Bounds) (base : State) (frame : SymFrame) (ca
   Follows take = (i : IsInstanceOf take.state input) → IsOutcome world bounds c take.state input i take.outcome
 
   ill : step s c ≡ ill_typed_step s c → Follows (ill_typed world state)
-  ill e = ill_typed_is world bounds state sound input c stands frame callers unhandled next state.nodes (Extends-refl state.nodes) state.when framed waiting e
+  ill e = ill_typed_is world bounds state sound input c stands frame callers sound.stage next state.nodes (Extends-refl state.nodes) state.when framed waiting e
 
   -- ---- what is kept
 
@@ -304,7 +303,7 @@ module _ (world : World) (bounds : Bounds) (base : State) (frame : SymFrame) (ca
     by_room object o named is has stored e =
         go (has_room world frame.method (length rest)) refl
         (e ∙ ap (λ (b : Bool). if b then carries_out_step c behind c.callers (with_value c.heap o field.slot value') else ill_typed_step s c)
-        (room_same world bounds state sound input c stands frame callers unhandled next state.nodes (Extends-refl state.nodes) state.when framed waiting rest))
+        (room_same world bounds state sound input c stands frame callers sound.stage next state.nodes (Extends-refl state.nodes) state.when framed waiting rest))
       where
         k : IsKeptIn world state input places (kept_in field.kind value state) value'
         k = kept_is field.kind value value_there
@@ -337,7 +336,7 @@ module _ (world : World) (bounds : Bounds) (base : State) (frame : SymFrame) (ca
         → Follows (followed world bounds next (put world state field object value))
     by_object (Int t) reference is stored e = absurd reference
     by_object Null reference is stored e =
-        throws_is world bounds state sound input c stands frame callers unhandled next state.nodes (Extends-refl state.nodes) state.when framed waiting null_pointer e
+        throws_is world bounds state sound input c stands frame callers sound.stage next state.nodes (Extends-refl state.nodes) state.when framed waiting stored null_pointer e
     by_object (Obj n) reference is stored e = by_place (Obj n) (place_at r.places.objects n) refl is stored e
     by_object (Literal n) reference is stored e = by_place (Literal n) (r.inputs + n) refl is stored e
     by_object (New n) reference is stored e = by_place (New n) (r.inputs + r.literals + n) refl is stored e

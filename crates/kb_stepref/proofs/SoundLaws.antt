@@ -9,6 +9,11 @@ use Rattle.kb_code.specs.declared.instruction.Instr.TheVariants as instrs
 use Rattle.kb_heap.specs.declared.bounds.Bound.{Bound}
 use Rattle.kb_heap.specs.declared.bounds.Bound.TheVariants.{Steps}
 use Rattle.kb_heap.specs.declared.bounds.Bounds.{Bounds}
+use Rattle.kb_class.specs.Platform.{throwable}
+use Rattle.kb_classes.specs.Subtypes.{fits}
+use Rattle.kb_names.specs.declared.types.ExactType.{ExactType}
+use Rattle.kb_names.specs.declared.types.JType.TheVariants as types
+use Rattle.kb_frames.specs.Heaps.{exact_type_of}
 use Rattle.kb_classes.specs.World.{World}
 use Rattle.kb_classes.specs.declared.slots.FieldSlot.{FieldSlot}
 use Rattle.kb_names.specs.declared.types.JType.{JType}
@@ -37,7 +42,7 @@ use Rattle.kb_frames.specs.Making.{with_made}
 use Rattle.kb_frames.specs.Next.{argument_next, method_now, offset_now}
 use Rattle.kb_frames.specs.State.{State}
 use Rattle.kb_frames.specs.States.{Each, IsLocal, IsSymValue}
-use Rattle.kb_ways.specs.Ways.{with_stack, Take, Way, Goes, Jumps, Enters, Throws, Fails, ill_typed}
+use Rattle.kb_ways.specs.Ways.{with_stack, ObjectThere, OfPicture, OfRun, Take, Way, Goes, Jumps, Enters, Throws, ThrowsThere, Fails, ill_typed, object_value}
 use Rattle.kb_ways.proofs.AskedLaws.{interned_is_term}
 use Rattle.kb_ways.proofs.GrowLaws.{if_has, interned_extends, interned_goes_on, more_terms, option_has}
 use Rattle.kb_frames.proofs.ItemLaws.{each_cons, each_drop, each_set, option_has_at, only_has}
@@ -53,7 +58,7 @@ use Rattle.kb_stepcall.proofs.PlanLaws.{HasWays, invokes_has, makes_has}
 use Rattle.kb_stepref.specs.Choices.{alternatives, choices_of}
 use Rattle.kb_ways.specs.Advancing.{only}
 use Rattle.kb_ways.specs.Plans.{Planned, plain, planned, carried_out, takes_next, takes_up, returns_value}
-use Rattle.kb_stepref.specs.Effects.{branch_where, got, in_local, is_local, plan_of, put, put_kept, put_where, puts_kept}
+use Rattle.kb_stepref.specs.Effects.{branch_where, got, in_local, is_local, plan_of, put, put_kept, put_where, puts_kept, throws_object, throws_reference}
 use Rattle.kb_ways.specs.Kept.{kept_in, kept, is_of_kind}
 use Rattle.kb_stepref.specs.Fields.{field_named, has_place, held}
 use Rattle.kb_lazy.specs.Laws.{AreInRange}
@@ -203,6 +208,21 @@ module _ (world : World) (state : State) (sound : Sound world state) (frame : Sy
   put_good field (New number) value is = placed_good field (New number) value is
   put_good field (Loc number) value is = placed_good field (Loc number) value is
 
+  -- ---- athrow
+
+  there_good : (object : ObjectThere) → IsSymValue world state (object_value object) → (kind : Option ExactType) → IsRight (planned state kind (throws_object world state object))
+  there_good object is kind =
+      planned_good kind (throws_object world state object)
+      (λ k e. if_has IsRight (fits world k (types.Class throwable)) (plain state (ThrowsThere object k)) (plain state Fails) (plain_good (ThrowsThere object k) is) fails_good)
+
+  thrown_good : (value : SymValue) → IsSymValue world state value → IsRight (throws_reference world state value)
+  thrown_good Null is = plain_good (Throws null_pointer) tt
+  thrown_good (Obj number) is = there_good (OfPicture number) is (exact_type_of state (Obj number))
+  thrown_good (New number) is = there_good (OfRun number) is (exact_type_of state (New number))
+  thrown_good (Int term) is = fails_good
+  thrown_good (Literal number) is = fails_good
+  thrown_good (Loc number) is = fails_good
+
   -- ---- calls and new objects
 
   -- a term that is made lies on what is left
@@ -274,6 +294,7 @@ module _ (world : World) (state : State) (sound : Sound world state) (frame : Sy
       (returns_value world state)
       (λ value e. returns_has IsRight world state value
       (λ type. record { behind = (kept_behind world state sound type value (top_there value e)).behind; good = kept_there world state type value (top_there value e) }) fails_good)
+  plan_sound instrs.Throw = planned_good (a_reference (stack_of state.stage)) (throws_reference world state) (λ value e. thrown_good value (top_there value e))
   plan_sound (instrs.GetField entry) =
       planned_good (field_named world state entry) (λ (field : FieldSlot). planned state (a_reference (stack_of state.stage)) (got world state field))
       (λ field e. planned_good (a_reference (stack_of state.stage)) (got world state field) (λ object f. got_good field object))

@@ -5,16 +5,21 @@ use Rattle.std.specs.Prelude.{ℕ, Bool, List, ◌∷◌, length, drop, nat_lt, 
 use Rattle.kb_code.specs.declared.instruction.Instr.{Instr}
 use Rattle.kb_code.specs.declared.instruction.Instr.TheVariants as instrs
 use Rattle.kb_classes.specs.World.{World}
+use Rattle.kb_class.specs.Platform.{throwable}
+use Rattle.kb_classes.specs.Subtypes.{fits}
 use Rattle.kb_classes.specs.declared.slots.FieldSlot.{FieldSlot}
+use Rattle.kb_names.specs.declared.types.ExactType.{ExactType}
+use Rattle.kb_names.specs.declared.types.JType.TheVariants as types
 use Rattle.kb_semantics.specs.Config.{has_room, max_locals_of}
 use Rattle.kb_semantics.specs.Instructions.{BySelection, Special, Static, is_wanted}
 use Rattle.kb_semantics.specs.Ways.{null_pointer}
 use Rattle.kb_frames.specs.declared.value.SymValue.{SymValue}
-use Rattle.kb_frames.specs.declared.value.SymValue.TheVariants.{Null}
+use Rattle.kb_frames.specs.declared.value.SymValue.TheVariants.{Int, Null, Obj, Literal, New, Loc}
+use Rattle.kb_frames.specs.Heaps.{exact_type_of}
 use Rattle.kb_frames.specs.Lent.{local_in, locals_of, stack_of}
 use Rattle.kb_frames.specs.Next.{method_now}
 use Rattle.kb_frames.specs.State.{State}
-use Rattle.kb_ways.specs.Ways.{with_stack, Way, Goes, Jumps, Throws, Fails}
+use Rattle.kb_ways.specs.Ways.{with_stack, ObjectThere, OfPicture, OfRun, Way, Goes, Jumps, Throws, ThrowsThere, Fails}
 use Rattle.kb_stepref.specs.Fields.{field_named, has_place, held, put_in}
 use Rattle.kb_ways.specs.Identity.{same}
 use Rattle.kb_stepref.specs.Comparing.{is_null}
@@ -67,6 +72,25 @@ branches_null state want target = planned state (a_reference (stack_of state.sta
 -- areturn
 abbrev pub returns_reference : World → State → Planned
 returns_reference world state = planned state (a_reference (stack_of state.stage)) (returns_value world state)
+
+-- ---- athrow
+
+-- an object that is a Throwable is thrown; one that is none is ill-typed
+abbrev pub throws_object : World → State → ObjectThere → ExactType → Planned
+throws_object world state object kind = if fits world kind (types.Class throwable) then plain state (ThrowsThere object kind) else plain state Fails
+
+-- null throws; a literal is no Throwable
+abbrev pub throws_reference : World → State → SymValue → Planned
+throws_reference world state Null = plain state (Throws null_pointer)
+throws_reference world state (Obj number) = planned state (exact_type_of state (Obj number)) (throws_object world state (OfPicture number))
+throws_reference world state (New number) = planned state (exact_type_of state (New number)) (throws_object world state (OfRun number))
+throws_reference world state (Int term) = plain state Fails
+throws_reference world state (Literal number) = plain state Fails
+throws_reference world state (Loc number) = plain state Fails
+
+-- athrow: what is no reference is ill-typed before null is looked at
+abbrev pub throws_top : World → State → Planned
+throws_top world state = planned state (a_reference (stack_of state.stage)) (throws_reference world state)
 
 -- ---- getfield
 
@@ -121,6 +145,7 @@ plan_of world state choice (instrs.StoreRef k) = stores world state k
 plan_of world state choice (instrs.IfSame want target) = branches_same state want target
 plan_of world state choice (instrs.IfNull want target) = branches_null state want target
 plan_of world state choice instrs.ReturnRef = returns_reference world state
+plan_of world state choice instrs.Throw = throws_top world state
 plan_of world state choice (instrs.GetField entry) = gets world state entry
 plan_of world state choice (instrs.PutField entry) = puts world state entry
 plan_of world state choice (instrs.Virtual entry) = invokes BySelection world state entry

@@ -11,6 +11,7 @@ use crate::comparing::{if_null, if_same};
 use crate::fields::{FieldAt, get_field, get_found, put_field};
 use crate::locals::{load, store};
 use crate::returns::return_reference;
+use crate::throwing::throw;
 use kb_code::Instr;
 use kb_frames::{Outcome, SymState, SymValue};
 use kb_stepcall::{Call, invoke, make_object};
@@ -44,6 +45,7 @@ fn by_instruction(turn: &Turn<'_>, state: &mut SymState) -> Result<Outcome, NoMe
         Instr::IfSame(want, target) => if_same(turn, state, *want, *target),
         Instr::IfNull(want, target) => if_null(turn, state, *want, *target),
         Instr::ReturnRef => return_reference(turn, state),
+        Instr::Throw => throw(turn, state),
         Instr::GetField(entry) => get_field(turn, state, *entry),
         Instr::PutField(entry) => put_field(turn, state, *entry),
         Instr::Virtual(entry) => invoke(turn, state, Call::BySelection, *entry),
@@ -51,7 +53,7 @@ fn by_instruction(turn: &Turn<'_>, state: &mut SymState) -> Result<Outcome, NoMe
         Instr::Static(entry) => invoke(turn, state, Call::Static, *entry),
         Instr::Interface(entry) => invoke(turn, state, Call::BySelection, *entry),
         Instr::New(entry) => make_object(turn, state, *entry),
-        // Those on ints, and on arrays, casts and throws, are not yet instructions on references.
+        // Those on ints, and on arrays and casts, are not yet instructions on references.
         Instr::Nop | Instr::PushInt(_) | Instr::Ldc(_) => ill_typed(turn, state),
         Instr::LoadInt(_) | Instr::StoreInt(_) | Instr::Inc(..) => ill_typed(turn, state),
         Instr::Pop | Instr::Pop2 | Instr::Dup | Instr::DupX1 => ill_typed(turn, state),
@@ -63,7 +65,7 @@ fn by_instruction(turn: &Turn<'_>, state: &mut SymState) -> Result<Outcome, NoMe
         Instr::ReturnInt | Instr::Return => ill_typed(turn, state),
         Instr::LoadElem(_) | Instr::StoreElem(_) | Instr::Length => ill_typed(turn, state),
         Instr::NewPrim(_) | Instr::NewRefs(_) => ill_typed(turn, state),
-        Instr::Throw | Instr::Cast(_) | Instr::InstanceOf(_) => ill_typed(turn, state),
+        Instr::Cast(_) | Instr::InstanceOf(_) => ill_typed(turn, state),
         Instr::Other(_) => ill_typed(turn, state),
     }
 }

@@ -16,6 +16,7 @@ mod look;
 mod questions;
 mod returns;
 mod take;
+mod throwing;
 
 pub use advance::advance_ref;
 pub use choices::choices_ref;

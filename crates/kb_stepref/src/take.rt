@@ -34,7 +34,8 @@ use std::alloc::Global;
 /// After memory ran out the state is only dropped or undone. It takes time in proportion to the cells of a new object, to the
 /// locals of the method where its first instruction is taken up, and to the classes above that of the object whose field is
 /// read or written, or that receives a call, and of a call to its operands and the locals of the new frame, however many
-/// instructions and objects the state has met; a throw and `new` fill the slots of the new object.
+/// instructions and objects the state has met; a throw and `new` fill the slots of the new object, and a throw takes time in
+/// proportion to the frames that it leaves and the entries of their handler tables.
 pub fn take_ref(
     alloc: Global,
     world: &World,

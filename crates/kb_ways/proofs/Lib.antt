@@ -4,6 +4,7 @@ pub mod BegunLaws
 pub mod CallLaws
 pub mod GoodWays
 pub mod GrowLaws
+pub mod HandlerLaws
 pub mod KeepLaws
 pub mod LocalLaws
 pub mod MeasureLaws

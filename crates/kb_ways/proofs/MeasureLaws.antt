@@ -27,8 +27,8 @@ use Rattle.kb_frames.specs.Lent.{read_count, transfers_of}
 use Rattle.kb_ways.specs.Measure.{questions_of, questions_of_op, unread_at, left_of, choices_left}
 use Rattle.kb_frames.specs.Next.{argument_next, instruction_next, method_now, offset_now}
 use Rattle.kb_ways.specs.Simulation.{GetsOn}
-use Rattle.kb_ways.specs.Ways.{Take, Way, Goes, Jumps, Enters, Leaves, Throws, Fails, carries_out, went}
-use Rattle.kb_ways.proofs.CallLaws.{entered_has, returned_has}
+use Rattle.kb_ways.specs.Ways.{Take, There, OfClass, Way, Goes, Jumps, Enters, Leaves, Throws, ThrowsThere, Fails, carries_out, went}
+use Rattle.kb_ways.proofs.CallLaws.{entered_has, returned_has, thrown_has}
 use Rattle.kb_ways.proofs.GrowLaws.{if_has, option_has}
 
 -- ---- instructions
@@ -108,5 +108,6 @@ module _ (world : World) (bounds : Bounds) (old : State) where
       (option_has Gets (counted bounds.run (offset_now state.stage) target (transfers_of state.stage)) _ _ (λ n. carries state (λ (frame : SymFrame). record frame { at = target; stack = stack; transfers = n }) e) tt) tt
   went_on next state (Enters method arguments rest) e = entered_has Gets world bounds state method arguments rest (ap (λ n. n + 1) e) tt
   went_on next state (Leaves value) e = returned_has Gets world state value tt (λ caller more waits. ap (λ n. n + 1) e) tt
-  went_on next state (Throws class) e = tt
+  went_on next state (Throws class) e = thrown_has Gets world bounds state (OfClass class) tt (λ count target n frame callers is. ap (λ n. n + 1) e) tt tt
+  went_on next state (ThrowsThere object kind) e = thrown_has Gets world bounds state (There object kind) tt (λ count target n frame callers is. ap (λ n. n + 1) e) tt tt
   went_on next state Fails e = tt

@@ -1,7 +1,7 @@
 -- What holds of a state that is reached holds of the state that a change leaves: of terms that are made and conditions that are
 -- added, of another frame, of an object that is made, of an argument that is read, and of the first frame. Its pool is left
 -- out, since no pool grows for ever.
-use Rattle.std.proofs.Common.{◌≡◌, ℕ, zero, suc, ◌+◌, ◌-◌, ◌<◌, ◌≤◌, inl, inr, pos, Bool, true, false, not, List, [], ◌∷◌, ◌++◌, length, map, replicate, Option, Some, None, slice_get, refl, sym, ap, subst, ◌∙◌, true≢false, is_some, if◌then◌else◌, arith, length-append}
+use Rattle.std.proofs.Common.{◌≡◌, ℕ, zero, suc, ◌+◌, ◌-◌, ◌<◌, ◌≤◌, inl, inr, pos, Bool, true, false, not, List, [], ◌∷◌, ◌++◌, drop, length, map, replicate, Option, Some, None, slice_get, refl, sym, ap, subst, ◌∙◌, true≢false, is_some, if◌then◌else◌, arith, length-append}
 use Rattle.std.specs.List.{list_any}
 use Rattle.std.specs.Option.{option_map, option_map_or, option_and_then}
 use Rattle.std.proofs.lemmas.Bool.{and_parts, and_from}
@@ -53,8 +53,8 @@ use Rattle.kb_frames.specs.declared.value.Cell.TheVariants.{Untouched, Read, Wri
 use Rattle.kb_frames.specs.declared.value.SymValue.{SymValue}
 use Rattle.kb_frames.specs.declared.value.SymValue.TheVariants.{Int, Null, Obj, Literal, New, Loc}
 use Rattle.kb_frames.specs.FirstReads.{with_read, first_int}
-use Rattle.kb_frames.specs.Calls.{called_stage, left_stage}
-use Rattle.kb_frames.specs.Lent.{begun, begun_frame, begun_stage, callers_of, read_count, with_frame, with_nodes}
+use Rattle.kb_frames.specs.Calls.{back_to, called_stage, frames_of, landed, left_stage}
+use Rattle.kb_frames.specs.Lent.{begun, begun_frame, begun_stage, callers_of, on_frame, read_count, with_frame, with_nodes}
 use Rattle.kb_frames.specs.Making.{default_sym, new_sym_object, with_made}
 use Rattle.kb_frames.specs.Next.{argument_next, instruction_next, is_int, is_int_next, method_now, next_is_int}
 use Rattle.kb_frames.specs.State.{State}
@@ -63,11 +63,11 @@ use Rattle.kb_frames.specs.Truths.{truth_in}
 use Rattle.kb_ways.specs.declared.condition.Condition.{Condition}
 use Rattle.kb_ways.specs.Asked.{all_asked, asked, interned_condition, interned_side}
 use Rattle.kb_ways.specs.Reached.{HasNoneLeftOut, HasReadReceiver, IsReached, SwitchesRise}
-use Rattle.kb_ways.specs.Ways.{Take, carries_out, entered, resumes, returned, with_result}
+use Rattle.kb_ways.specs.Ways.{OfClass, Take, There, Thrown, carries_out, entered, object_value, resumes, returned, thrown, with_result}
 use Rattle.kb_ways.proofs.AskedLaws.{interned_is_term, interned_node, later_node, no_constant, not_folded}
-use Rattle.kb_ways.proofs.CallLaws.{entered_has, returned_has}
+use Rattle.kb_ways.proofs.CallLaws.{entered_has, returned_has, thrown_has}
 use Rattle.kb_ways.proofs.GrowLaws.{GoesOn, Grows, all_asked_grows, condition_goes_on, interned_goes_on}
-use Rattle.kb_frames.proofs.ItemLaws.{each_append, each_cons, each_copy, each_map, each_mapped, each_rest, no_items, none_passes}
+use Rattle.kb_frames.proofs.ItemLaws.{each_append, each_cons, each_copy, each_drop, each_map, each_mapped, each_rest, no_items, none_passes}
 use Rattle.kb_ways.proofs.PictureLaws.{receiver_still, slots_are}
 use Rattle.kb_names.specs.declared.types.JType.TheVariants as types
 use Rattle.kb_picture.specs.declared.picture.Seen.TheVariants as seens
@@ -338,10 +338,24 @@ module _ (world : World) (state : State) (frame : SymFrame) (callers : List SymF
       (λ caller more waits. (let is : Runs frame callers ≡ Runs frame (caller ∷ more) = ap (Runs frame) (ap callers_of (sym running) ∙ waits) in
       let each : Each (IsFrame world state) (caller ∷ more) = subst (Each (IsFrame world state)) (ap callers_of (sym running) ∙ waits) frame_sound.1 in
       let first : IsFrame world state caller = each 0 caller refl in
-      subst (λ (stage : Stage). Sound world (record state { stage = with_frame (resumes world value) (left_stage stage); carried = state.carried + 1 })) (sym (running ∙ is))
+      subst (λ (stage : Stage). Sound world (record state { stage = with_frame (resumes world value) (left_stage 1 stage); carried = state.carried + 1 })) (sym (running ∙ is))
       (framed_sound (resumes world value caller) more (record { room = first.room; locals = first.locals; stack = with_result_sound value caller.stack there first.stack })
       (each_rest (IsFrame world state) caller more each))))
       sound
+
+  -- so many frames are left, and the next one has nothing but a value that is there
+  pub landed_sound : (count target transfers : ℕ) (value : SymValue) → IsSymValue world state value → (current : SymFrame) (others : List SymFrame) → drop count (frame ∷ callers) ≡ current ∷ others
+      → Sound world (carries_out (landed count value state) (λ (f : SymFrame). record f { at = target; transfers = transfers })).state
+  landed_sound count target transfers value there current others is =
+      let all : Each (IsFrame world state) (frame ∷ callers) = each_cons (IsFrame world state) frame callers frame_sound.0 frame_sound.1 in
+      let each : Each (IsFrame world state) (current ∷ others) = subst (Each (IsFrame world state)) is (each_drop (IsFrame world state) count (frame ∷ callers) all) in
+      let first : IsFrame world state current = each 0 current refl in
+      subst (λ (stage : Stage). Sound world (carries_out (landed count value (record state { stage = stage })) (λ (f : SymFrame). record f { at = target; transfers = transfers })).state) (sym running)
+      (subst (λ (frames : List SymFrame). Sound world (carries_out (on_frame (λ (f : SymFrame). record f { stack = value ∷ [] }) (record state { stage = back_to (Runs frame callers) frames }))
+      (λ (f : SymFrame). record f { at = target; transfers = transfers })).state) (sym is)
+      (framed_sound (record current { at = target; stack = value ∷ []; transfers = transfers }) others
+      (record { room = first.room; locals = first.locals; stack = each_cons (IsSymValue world state) value [] there (no_items (IsSymValue world state)) })
+      (each_rest (IsFrame world state) current others each)))
 
 -- ---- objects that are made
 
@@ -394,6 +408,32 @@ module _ (world : World) (state : State) (class : List ℕ) (sound : Sound world
     parameters = sound.parameters;
     keys = sound.keys;
   }
+
+-- ---- a throw
+
+-- what is thrown is there, or is made
+abbrev pub IsThereThrown : World → State → Thrown → Type 0
+IsThereThrown world state (OfClass class) = Unit {0}
+IsThereThrown world state (There object kind) = IsSymValue world state (object_value object)
+
+module _ (world : World) (bounds : Bounds) (state : State) (frame : SymFrame) (callers : List SymFrame) (running : state.stage ≡ Runs frame callers) (sound : Sound world state) where
+  abbrev SoundTo : Take → Type 0
+  SoundTo take = Sound world take.state
+
+  frames_are : frames_of state.stage ≡ frame ∷ callers
+  frames_are = ap frames_of running
+
+  pub thrown_sound : (it : Thrown) → IsThereThrown world state it → SoundTo (thrown world bounds state it)
+  thrown_sound (OfClass class) there =
+      thrown_has SoundTo world bounds state (OfClass class) (made_sound world state class sound)
+      (λ count target n current others is. landed_sound world (with_made world state class) frame callers running (made_sound world state class sound) count target n (New (length state.made)) (last_there class) current others
+      (ap (drop count) (sym frames_are) ∙ is)) sound sound
+    where
+      last_there : (class : List ℕ) → length state.made < length (with_made world state class).made
+      last_there class = omega (arith, length-append state.made (new_sym_object world class (interned state.nodes (Const (pos 0))).1 ∷ []))
+  thrown_sound (There object kind) there =
+      thrown_has SoundTo world bounds state (There object kind) sound
+      (λ count target n current others is. landed_sound world state frame callers running sound count target n (object_value object) there current others (ap (drop count) (sym frames_are) ∙ is)) sound sound
 
 -- ---- arguments
 

@@ -9,8 +9,8 @@ use Rattle.kb_classes.specs.World.{World}
 use Rattle.kb_frames.specs.Next.{instruction_next, is_int_instruction, method_now}
 use Rattle.kb_frames.specs.State.{State}
 
--- aconst_null, aload, astore, if_acmp<cond>, ifnull, ifnonnull, areturn, getfield, putfield, invokevirtual, invokespecial,
--- invokestatic, invokeinterface and new
+-- aconst_null, aload, astore, if_acmp<cond>, ifnull, ifnonnull, areturn, athrow, getfield, putfield, invokevirtual,
+-- invokespecial, invokestatic, invokeinterface and new
 abbrev pub is_reference_instruction : Instr → Bool
 is_reference_instruction instrs.PushNull = true
 is_reference_instruction (instrs.LoadRef k) = true
@@ -18,6 +18,7 @@ is_reference_instruction (instrs.StoreRef k) = true
 is_reference_instruction (instrs.IfSame want target) = true
 is_reference_instruction (instrs.IfNull want target) = true
 is_reference_instruction instrs.ReturnRef = true
+is_reference_instruction instrs.Throw = true
 is_reference_instruction (instrs.GetField entry) = true
 is_reference_instruction (instrs.PutField entry) = true
 is_reference_instruction (instrs.Virtual entry) = true

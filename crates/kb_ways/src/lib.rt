@@ -18,6 +18,7 @@ mod operands;
 mod place;
 mod question;
 mod terms;
+mod throwing;
 mod turn;
 mod ways;
 
@@ -36,5 +37,6 @@ pub use operands::{
 pub use question::Question;
 pub use std::alloc::AllocError as NoMemory;
 pub use terms::{constant, make};
+pub use throwing::{Thrown, thrown, throws};
 pub use turn::{Turn, taken_up};
-pub use ways::{carry_on, has_room, ill_typed, jumps, replaces, takes_none, throws};
+pub use ways::{carry_on, has_room, ill_typed, jumps, replaces, takes_none};
