@@ -4,6 +4,7 @@ pub mod ComparedLaws
 pub mod IntMethodLaws
 pub mod KeepLaws
 pub mod KeyLaws
+pub mod LookLaws
 pub mod MeasureLaws
 pub mod OneLaws
 pub mod OneListed

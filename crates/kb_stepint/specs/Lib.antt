@@ -5,3 +5,4 @@ pub mod IntMethods
 pub mod Laws
 pub mod Keys
 pub mod Questions
+pub mod Looks

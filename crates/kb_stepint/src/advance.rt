@@ -9,8 +9,8 @@ ghost use Rattle.kb_ways.specs.Reached.{HasNoHandlers, IsAlone, IsReached};
 
 use crate::NoMemory;
 use crate::choices::alternatives;
-use crate::questions::question_next;
-use crate::take::take_int;
+use crate::look::look_at;
+use crate::take::take_told;
 use kb_frames::SymState;
 use kb_heap::Bounds;
 use kb_picture::Choice;
@@ -35,13 +35,14 @@ pub fn advance_int(
     ensures advanced { IfOk result (IsAdvanced (choices_of world.now state.old bounds.now) (taken world.now bounds.now state.old Only) state.old state.new) }
     ensures reached { OnOk result (IsReached world.now state.new) }
 {
-    match question_next(world, state, bounds) {
+    let look = look_at(alloc, world, state, bounds);
+    match &look.question {
         Some(question) => {
-            let choices = alternatives(alloc, state, &question)?;
+            let choices = alternatives(alloc, state, question)?;
             Ok(Advanced::Chooses(choices))
         }
         None => {
-            let outcome = take_int(alloc, world, state, &Choice::Only, bounds)?;
+            let outcome = take_told(alloc, world, state, &Choice::Only, bounds, &look)?;
             Ok(Advanced::Took(outcome))
         }
     }

@@ -2,7 +2,7 @@
 ghost use Rattle.std.specs.Prelude.{◌≡◌, false, true, IfOk};
 ghost use Rattle.kb_terms.specs.Op.{is_binary};
 ghost use Rattle.kb_stepint.specs.Effects.{computes, computes_two, op_of, op_of_cut};
-ghost use Rattle.kb_ways.specs.Needs.{CanStep};
+ghost use Rattle.kb_ways.specs.Needs.{HasTerms, IsFor};
 ghost use Rattle.kb_ways.specs.Turns.{told, led_by};
 
 use crate::NoMemory;
@@ -47,7 +47,8 @@ pub(crate) fn op_of_cut(cut: IntCut) -> Op
 
 /// ineg, i2b, i2c, i2s
 pub(crate) fn compute(turn: &Turn<'_>, state: &mut SymState, op: Op) -> Result<Outcome, NoMemory>
-    requires step { CanStep turn.now.bounds state.old }
+    requires terms { HasTerms state.old }
+    requires stands { IsFor turn.now state.old }
     requires unary { is_binary op ≡ false }
     ensures { IfOk result (λ outcome. told state.new outcome ≡ led_by turn.now (computes state.old op)) }
 {
@@ -65,7 +66,8 @@ pub(crate) fn compute_two(
     op: IntOp,
     choice: &Choice,
 ) -> Result<Outcome, NoMemory>
-    requires { CanStep turn.now.bounds state.old }
+    requires terms { HasTerms state.old }
+    requires stands { IsFor turn.now state.old }
     ensures { IfOk result (λ outcome. told state.new outcome ≡ led_by turn.now (computes_two state.old op choice.now)) }
 {
     let Some((left, right)) = two_ints(state) else {

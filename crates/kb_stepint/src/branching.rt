@@ -1,9 +1,10 @@
 //! Branches and switches (JVMS 8 section 6.5). Which way is taken was chosen.
-ghost use Rattle.std.specs.Prelude.{◌≡◌, ◌<◌, drop, is_some, IfOk};
+ghost use Rattle.std.specs.Prelude.{◌≡◌, drop, is_some, IfOk};
 ghost use Rattle.kb_frames.specs.Lent.{stack_of};
 ghost use Rattle.kb_picture.specs.declared.choice.Choice.TheVariants.{Key};
 ghost use Rattle.kb_stepint.specs.Effects.{branch_way, branches, switch_way, switches};
 ghost use Rattle.kb_ways.specs.Operands.{an_int, two_ints};
+ghost use Rattle.kb_ways.specs.Needs.{IsFor};
 ghost use Rattle.kb_ways.specs.Turns.{led, told, led_by};
 ghost use Rattle.kb_stepint.specs.Keys.{keys_of};
 
@@ -20,7 +21,7 @@ pub(crate) fn if_int(
     target: u32,
     choice: &Choice,
 ) -> Result<Outcome, NoMemory>
-    requires { state.old.carried < turn.now.bounds.run.steps }
+    requires { IsFor turn.now state.old }
     ensures { IfOk result (λ outcome. told state.new outcome ≡ led_by turn.now (branches state.old (is_some (an_int (stack_of state.old.stage))) 1 target choice.now)) }
 {
     match an_int(state) {
@@ -36,7 +37,7 @@ pub(crate) fn if_pair(
     target: u32,
     choice: &Choice,
 ) -> Result<Outcome, NoMemory>
-    requires { state.old.carried < turn.now.bounds.run.steps }
+    requires { IsFor turn.now state.old }
     ensures { IfOk result (λ outcome. told state.new outcome ≡ led_by turn.now (branches state.old (is_some (two_ints (stack_of state.old.stage))) 2 target choice.now)) }
 {
     match two_ints(state) {
@@ -53,7 +54,7 @@ pub(crate) fn switch(
     default: u32,
     choice: &Choice,
 ) -> Result<Outcome, NoMemory>
-    requires { state.old.carried < turn.now.bounds.run.steps }
+    requires { IsFor turn.now state.old }
     ensures { IfOk result (λ outcome. told state.new outcome ≡ led_by turn.now (switches state.old (keys_of keys.now) default choice.now)) }
 {
     match an_int(state) {
@@ -70,7 +71,7 @@ fn branch(
     target: u32,
     choice: &Choice,
 ) -> Result<Outcome, NoMemory>
-    requires { state.old.carried < turn.now.bounds.run.steps }
+    requires { IsFor turn.now state.old }
     ensures { IfOk result (λ outcome. told state.new outcome ≡ led turn.now state.old (branch_way state.old target (drop count (stack_of state.old.stage)) choice.now)) }
 {
     match choice {
@@ -88,7 +89,7 @@ fn switch_by(
     default: u32,
     choice: &Choice,
 ) -> Result<Outcome, NoMemory>
-    requires { state.old.carried < turn.now.bounds.run.steps }
+    requires { IsFor turn.now state.old }
     ensures { IfOk result (λ outcome. told state.new outcome ≡ led turn.now state.old (switch_way (keys_of keys.now) default (drop 1 (stack_of state.old.stage)) choice.now)) }
 {
     match choice {
@@ -105,7 +106,7 @@ fn switch_to(
     keys: &Keys<'_>,
     place: usize,
 ) -> Result<Outcome, NoMemory>
-    requires { state.old.carried < turn.now.bounds.run.steps }
+    requires { IsFor turn.now state.old }
     ensures { IfOk result (λ outcome. told state.new outcome ≡ led turn.now state.old (switch_way (keys_of keys.now) 0 (drop 1 (stack_of state.old.stage)) (Key place))) }
 {
     if place >= keys.len() {

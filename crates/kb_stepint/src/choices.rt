@@ -12,7 +12,8 @@ ghost use Rattle.kb_picture.specs.declared.choice.Choice.TheVariants.{Default, K
 
 use crate::NoMemory;
 use crate::keys::Keys;
-use crate::questions::{IntQuestion, question_next};
+use crate::look::look_at;
+use crate::questions::IntQuestion;
 use kb_code::Cond;
 use kb_frames::SymState;
 use kb_heap::Bounds;
@@ -38,8 +39,9 @@ pub fn choices_int(
     requires int { next_is_int world.now state.now ≡ true }
     ensures { IfOk result (λ choices. choices.items ≡ choices_of world.now state.now bounds.now) }
 {
-    match question_next(world, state, bounds) {
-        Some(question) => alternatives(alloc, state, &question),
+    let look = look_at(alloc, world, state, bounds);
+    match &look.question {
+        Some(question) => alternatives(alloc, state, question),
         None => only_way_on(alloc),
     }
 }

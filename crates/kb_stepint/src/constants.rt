@@ -1,10 +1,11 @@
 //! Instructions that push an int that the code tells (JVMS 8 section 6.5).
-ghost use Rattle.std.specs.Prelude.{◌≡◌, ◌<◌, IfOk};
+ghost use Rattle.std.specs.Prelude.{◌≡◌, IfOk};
 ghost use Rattle.kb_classes.specs.World.{int_entry_of};
 ghost use Rattle.kb_semantics.specs.Config.{class_number};
 ghost use Rattle.kb_frames.specs.Next.{method_now};
 ghost use Rattle.kb_ways.specs.Plans.{planned};
 ghost use Rattle.kb_stepint.specs.Effects.{pushes_int};
+ghost use Rattle.kb_ways.specs.Needs.{IsFor};
 ghost use Rattle.kb_ways.specs.Turns.{told, led_by};
 
 use crate::NoMemory;
@@ -20,7 +21,7 @@ pub(crate) fn push_int(
     state: &mut SymState,
     value: i32,
 ) -> Result<Outcome, NoMemory>
-    requires { state.old.carried < turn.now.bounds.run.steps }
+    requires { IsFor turn.now state.old }
     ensures { IfOk result (λ outcome. told state.new outcome ≡ led_by turn.now (pushes_int state.old value)) }
 {
     let term = constant(state, value)?;
@@ -33,11 +34,10 @@ pub(crate) fn load_constant(
     state: &mut SymState,
     entry: u16,
 ) -> Result<Outcome, NoMemory>
-    requires { state.old.carried < turn.now.bounds.run.steps }
+    requires { IsFor turn.now state.old }
     ensures { IfOk result (λ outcome. told state.new outcome ≡ led_by turn.now (planned state.old (int_entry_of turn.now.world.now (class_number turn.now.world.now (method_now state.old.method state.old.stage)) entry) (pushes_int state.old))) }
 {
-    let (method, _) = state.stands_at();
-    match int_entry(turn.world, method, entry) {
+    match int_entry(turn.world, turn.method, entry) {
         Some(value) => push_int(turn, state, value),
         None => ill_typed(turn, state),
     }

@@ -1,6 +1,6 @@
 //! What each instruction on ints does to a state (JVMS 8 section 6.5).
 ghost use Rattle.std.specs.Prelude.{◌≡◌, IfOk};
-ghost use Rattle.kb_ways.specs.Needs.{CanStep};
+ghost use Rattle.kb_ways.specs.Needs.{HasTerms, IsFor};
 ghost use Rattle.kb_ways.specs.Turns.{told, led_by};
 ghost use Rattle.kb_stepint.specs.Effects.{effect_of};
 
@@ -18,17 +18,17 @@ use kb_picture::Choice;
 use kb_terms::Op;
 use kb_ways::{Turn, ill_typed, jumps, replaces};
 
-/// Carries out an instruction by the alternative that was chosen, whose conditions the state has.
+/// Carries out the instruction of a turn by the alternative that was chosen, whose conditions the state has.
 pub(crate) fn carry_out(
     turn: &Turn<'_>,
     state: &mut SymState,
     choice: &Choice,
-    instr: &Instr,
 ) -> Result<Outcome, NoMemory>
-    requires { CanStep turn.now.bounds state.old }
-    ensures { IfOk result (λ outcome. told state.new outcome ≡ led_by turn.now (effect_of turn.now.world.now state.old choice.now instr.now)) }
+    requires terms { HasTerms state.old }
+    requires stands { IsFor turn.now state.old }
+    ensures { IfOk result (λ outcome. told state.new outcome ≡ led_by turn.now (effect_of turn.now.world.now state.old choice.now turn.now.instr.now)) }
 {
-    match instr {
+    match turn.instr {
         Instr::Nop => replaces(turn, state, 0, &[]),
         Instr::PushInt(value) => push_int(turn, state, *value),
         Instr::Ldc(entry) => load_constant(turn, state, *entry),

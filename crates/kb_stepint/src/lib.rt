@@ -14,6 +14,7 @@ mod int_methods;
 mod keys;
 mod laws;
 mod locals;
+mod look;
 mod questions;
 mod rearranging;
 mod returns;

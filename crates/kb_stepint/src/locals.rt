@@ -1,8 +1,8 @@
 //! Instructions on locals that are ints (JVMS 8 section 6.5).
-ghost use Rattle.std.specs.Prelude.{◌≡◌, ◌<◌, drop, IfOk};
+ghost use Rattle.std.specs.Prelude.{◌≡◌, drop, IfOk};
 ghost use Rattle.kb_frames.specs.Lent.{stack_of};
 ghost use Rattle.kb_stepint.specs.Effects.{in_local, increases, int_local, loads, stores};
-ghost use Rattle.kb_ways.specs.Needs.{CanStep};
+ghost use Rattle.kb_ways.specs.Needs.{HasTerms, IsFor};
 ghost use Rattle.kb_ways.specs.Turns.{led, told, led_by};
 
 use crate::NoMemory;
@@ -14,7 +14,7 @@ use kb_ways::{
 
 /// iload
 pub(crate) fn load(turn: &Turn<'_>, state: &mut SymState, local: u16) -> Result<Outcome, NoMemory>
-    requires { state.old.carried < turn.now.bounds.run.steps }
+    requires { IsFor turn.now state.old }
     ensures { IfOk result (λ outcome. told state.new outcome ≡ led_by turn.now (loads turn.now.world.now state.old local)) }
 {
     match int_local(turn, state, local) {
@@ -25,7 +25,7 @@ pub(crate) fn load(turn: &Turn<'_>, state: &mut SymState, local: u16) -> Result<
 
 /// istore
 pub(crate) fn store(turn: &Turn<'_>, state: &mut SymState, local: u16) -> Result<Outcome, NoMemory>
-    requires { state.old.carried < turn.now.bounds.run.steps }
+    requires { IsFor turn.now state.old }
     ensures { IfOk result (λ outcome. told state.new outcome ≡ led_by turn.now (stores turn.now.world.now state.old local)) }
 {
     match an_int(state) {
@@ -41,7 +41,8 @@ pub(crate) fn increase(
     local: u16,
     by: i32,
 ) -> Result<Outcome, NoMemory>
-    requires { CanStep turn.now.bounds state.old }
+    requires terms { HasTerms state.old }
+    requires stands { IsFor turn.now state.old }
     ensures { IfOk result (λ outcome. told state.new outcome ≡ led_by turn.now (increases turn.now.world.now state.old local by)) }
 {
     let Some(term) = int_local(turn, state, local) else {
@@ -54,6 +55,7 @@ pub(crate) fn increase(
 
 // The int of a local that lies below the limit.
 fn int_local(turn: &Turn<'_>, state: &SymState, local: u16) -> Option<TermId>
+    requires { IsFor turn.now state.now }
     ensures { result ≡ int_local turn.now.world.now state.now local }
 {
     if !is_local(turn, state, local) {
@@ -70,7 +72,7 @@ fn set(
     term: TermId,
     count: usize,
 ) -> Result<Outcome, NoMemory>
-    requires { state.old.carried < turn.now.bounds.run.steps }
+    requires { IsFor turn.now state.old }
     ensures { IfOk result (λ outcome. told state.new outcome ≡ led turn.now state.old (in_local turn.now.world.now state.old local term (drop count (stack_of state.old.stage)))) }
 {
     if !is_local(turn, state, local) {

@@ -2,16 +2,13 @@
 ghost use Rattle.std.specs.Prelude.{◌≡◌, IfSome};
 ghost use Rattle.kb_frames.specs.Lent.{stack_of};
 ghost use Rattle.kb_picture.specs.declared.choice.Choice.{Choice};
-ghost use Rattle.kb_stepint.specs.Choices.{choices_of, conditions_of, offered, takes_up_none};
+ghost use Rattle.kb_stepint.specs.Choices.{conditions_of, offered};
 ghost use Rattle.kb_stepint.specs.Questions.{HasTermsOf, conditions_by, offered_by};
 ghost use Rattle.kb_ways.specs.Needs.{HasTerms};
 
 use crate::keys::Keys;
 use kb_code::{Cond, Instr, IntOp};
 use kb_frames::SymState;
-use kb_heap::Bounds;
-use kb_lookups::instruction_at;
-use kb_semantics::World;
 use kb_terms::TermId;
 use kb_ways::{Side, an_int, two_ints};
 
@@ -24,37 +21,6 @@ pub(crate) enum IntQuestion<'w> {
     Key(TermId, Keys<'w>),
     /// Whether a divisor is 0.
     Divisor(TermId),
-}
-
-/// What the next step of a state must be told: None where there is the only way on.
-pub(crate) fn question_next<'w>(
-    world: &'w World,
-    state: &SymState,
-    bounds: &Bounds,
-) -> Option<IntQuestion<'w>>
-    requires { HasTerms state.now }
-    ensures offered { choices_of world.now state.now bounds.now ≡ offered_by state.now result }
-    ensures terms { IfSome result (HasTermsOf state.now.nodes) }
-{
-    if takes_up_none(world, state, bounds) {
-        return None;
-    }
-    let (method, at) = state.stands_at();
-    match instruction_at(world, method, at) {
-        Some(found) => question_of(state, found.instr),
-        None => None,
-    }
-}
-
-// Whether no instruction is taken up: an argument is read, or as many instructions were carried out as may be.
-#[tactic(auto, using(kb_ways::proofs::TakeLaws::kind_is))]
-fn takes_up_none(world: &World, state: &SymState, bounds: &Bounds) -> bool
-    ensures { result ≡ takes_up_none world.now state.now bounds.now }
-{
-    match state.next_kind(world) {
-        Some(_) => true,
-        None => bounds.run.steps <= state.carried(),
-    }
 }
 
 /// What an instruction must be told in a state. Where its operands are no ints it is ill-typed, and nothing is to be told.

@@ -1,7 +1,8 @@
 //! Instructions that rearrange the operand stack (JVMS 8 section 6.5). Values are named from the top down, and pushed from the
 //! bottom up.
-ghost use Rattle.std.specs.Prelude.{◌≡◌, ◌<◌, ◌∷◌, [], IfOk};
+ghost use Rattle.std.specs.Prelude.{◌≡◌, ◌∷◌, [], IfOk};
 ghost use Rattle.kb_stepint.specs.Effects.{rearranges};
+ghost use Rattle.kb_ways.specs.Needs.{IsFor};
 ghost use Rattle.kb_ways.specs.Turns.{told, led_by};
 
 use crate::NoMemory;
@@ -10,7 +11,7 @@ use kb_ways::{Turn, ill_typed, replaces};
 
 /// pop
 pub(crate) fn pop(turn: &Turn<'_>, state: &mut SymState) -> Result<Outcome, NoMemory>
-    requires { state.old.carried < turn.now.bounds.run.steps }
+    requires { IsFor turn.now state.old }
     ensures { IfOk result (λ outcome. told state.new outcome ≡ led_by turn.now (rearranges state.old 1 [])) }
 {
     match state.value_at(0) {
@@ -21,7 +22,7 @@ pub(crate) fn pop(turn: &Turn<'_>, state: &mut SymState) -> Result<Outcome, NoMe
 
 /// pop2
 pub(crate) fn pop2(turn: &Turn<'_>, state: &mut SymState) -> Result<Outcome, NoMemory>
-    requires { state.old.carried < turn.now.bounds.run.steps }
+    requires { IsFor turn.now state.old }
     ensures { IfOk result (λ outcome. told state.new outcome ≡ led_by turn.now (rearranges state.old 2 [])) }
 {
     match state.value_at(1) {
@@ -32,7 +33,7 @@ pub(crate) fn pop2(turn: &Turn<'_>, state: &mut SymState) -> Result<Outcome, NoM
 
 /// dup
 pub(crate) fn dup(turn: &Turn<'_>, state: &mut SymState) -> Result<Outcome, NoMemory>
-    requires { state.old.carried < turn.now.bounds.run.steps }
+    requires { IsFor turn.now state.old }
     ensures { IfOk result (λ outcome. told state.new outcome ≡ led_by turn.now (rearranges state.old 1 (0 ∷ 0 ∷ []))) }
 {
     match state.value_at(0) {
@@ -43,7 +44,7 @@ pub(crate) fn dup(turn: &Turn<'_>, state: &mut SymState) -> Result<Outcome, NoMe
 
 /// dup_x1
 pub(crate) fn dup_x1(turn: &Turn<'_>, state: &mut SymState) -> Result<Outcome, NoMemory>
-    requires { state.old.carried < turn.now.bounds.run.steps }
+    requires { IsFor turn.now state.old }
     ensures { IfOk result (λ outcome. told state.new outcome ≡ led_by turn.now (rearranges state.old 2 (0 ∷ 1 ∷ 0 ∷ []))) }
 {
     match (state.value_at(0), state.value_at(1)) {
@@ -54,7 +55,7 @@ pub(crate) fn dup_x1(turn: &Turn<'_>, state: &mut SymState) -> Result<Outcome, N
 
 /// dup_x2
 pub(crate) fn dup_x2(turn: &Turn<'_>, state: &mut SymState) -> Result<Outcome, NoMemory>
-    requires { state.old.carried < turn.now.bounds.run.steps }
+    requires { IsFor turn.now state.old }
     ensures { IfOk result (λ outcome. told state.new outcome ≡ led_by turn.now (rearranges state.old 3 (0 ∷ 1 ∷ 2 ∷ 0 ∷ []))) }
 {
     match (state.value_at(0), state.value_at(1), state.value_at(2)) {
@@ -67,7 +68,7 @@ pub(crate) fn dup_x2(turn: &Turn<'_>, state: &mut SymState) -> Result<Outcome, N
 
 /// dup2
 pub(crate) fn dup2(turn: &Turn<'_>, state: &mut SymState) -> Result<Outcome, NoMemory>
-    requires { state.old.carried < turn.now.bounds.run.steps }
+    requires { IsFor turn.now state.old }
     ensures { IfOk result (λ outcome. told state.new outcome ≡ led_by turn.now (rearranges state.old 2 (0 ∷ 1 ∷ 0 ∷ 1 ∷ []))) }
 {
     match (state.value_at(0), state.value_at(1)) {
@@ -78,7 +79,7 @@ pub(crate) fn dup2(turn: &Turn<'_>, state: &mut SymState) -> Result<Outcome, NoM
 
 /// dup2_x1
 pub(crate) fn dup2_x1(turn: &Turn<'_>, state: &mut SymState) -> Result<Outcome, NoMemory>
-    requires { state.old.carried < turn.now.bounds.run.steps }
+    requires { IsFor turn.now state.old }
     ensures { IfOk result (λ outcome. told state.new outcome ≡ led_by turn.now (rearranges state.old 3 (0 ∷ 1 ∷ 2 ∷ 0 ∷ 1 ∷ []))) }
 {
     match (state.value_at(0), state.value_at(1), state.value_at(2)) {
@@ -91,7 +92,7 @@ pub(crate) fn dup2_x1(turn: &Turn<'_>, state: &mut SymState) -> Result<Outcome, 
 
 /// dup2_x2
 pub(crate) fn dup2_x2(turn: &Turn<'_>, state: &mut SymState) -> Result<Outcome, NoMemory>
-    requires { state.old.carried < turn.now.bounds.run.steps }
+    requires { IsFor turn.now state.old }
     ensures { IfOk result (λ outcome. told state.new outcome ≡ led_by turn.now (rearranges state.old 4 (0 ∷ 1 ∷ 2 ∷ 3 ∷ 0 ∷ 1 ∷ []))) }
 {
     let two = (state.value_at(0), state.value_at(1));
@@ -110,7 +111,7 @@ pub(crate) fn dup2_x2(turn: &Turn<'_>, state: &mut SymState) -> Result<Outcome, 
 
 /// swap
 pub(crate) fn swap(turn: &Turn<'_>, state: &mut SymState) -> Result<Outcome, NoMemory>
-    requires { state.old.carried < turn.now.bounds.run.steps }
+    requires { IsFor turn.now state.old }
     ensures { IfOk result (λ outcome. told state.new outcome ≡ led_by turn.now (rearranges state.old 2 (1 ∷ 0 ∷ []))) }
 {
     match (state.value_at(0), state.value_at(1)) {

@@ -1,7 +1,7 @@
 //! Returns (JVMS 8 section 6.5). For now no method calls another: the run ends.
 ghost use Rattle.std.specs.Prelude.{◌≡◌, IfOk};
 ghost use Rattle.kb_stepint.specs.Effects.{returns_int, returns_nothing};
-ghost use Rattle.kb_ways.specs.Needs.{CanStep};
+ghost use Rattle.kb_ways.specs.Needs.{HasTerms, IsFor};
 ghost use Rattle.kb_ways.specs.Turns.{led_by, told};
 
 use crate::NoMemory;
@@ -11,7 +11,8 @@ use kb_ways::{Turn, an_int, ill_typed, result_of, return_value};
 
 /// ireturn
 pub(crate) fn return_int(turn: &Turn<'_>, state: &mut SymState) -> Result<Outcome, NoMemory>
-    requires { CanStep turn.now.bounds state.old }
+    requires terms { HasTerms state.old }
+    requires stands { IsFor turn.now state.old }
     ensures { IfOk result (λ outcome. told state.new outcome ≡ led_by turn.now (returns_int turn.now.world.now state.old)) }
 {
     match an_int(state) {
@@ -22,10 +23,10 @@ pub(crate) fn return_int(turn: &Turn<'_>, state: &mut SymState) -> Result<Outcom
 
 /// return
 pub(crate) fn return_nothing(turn: &Turn<'_>, state: &SymState) -> Result<Outcome, NoMemory>
+    requires { IsFor turn.now state.now }
     ensures { IfOk result (λ outcome. told state.now outcome ≡ led_by turn.now (returns_nothing turn.now.world.now state.now)) }
 {
-    let (method, _) = state.stands_at();
-    match result_of(turn.world, method) {
+    match result_of(turn.world, turn.method) {
         Some(_) => ill_typed(turn, state),
         None => Ok(Outcome::Ends(SymEnding::Returned(None))),
     }

@@ -1,34 +1,36 @@
 //! What a state becomes when an alternative is taken.
-ghost use Rattle.std.specs.Prelude.{◌≡◌, ◌<◌, true, IfOk, OnOk};
+ghost use Rattle.std.specs.Prelude.{◌≡◌, true, IfOk, IfSome, OnOk};
+ghost use Rattle.std.specs.Option.{option_map_or};
 ghost use Rattle.kb_class.specs.Naming.{Has};
 ghost use Rattle.kb_terms.specs.Terms.{IsTerm};
-ghost use Rattle.kb_frames.specs.Lent.{stack_of};
-ghost use Rattle.kb_frames.specs.Next.{next_is_int};
+ghost use Rattle.kb_frames.specs.Lent.{begun};
+ghost use Rattle.kb_frames.specs.Next.{argument_next, next_is_int};
 ghost use Rattle.kb_picture.specs.declared.choice.Choice.TheVariants.{Default, Key};
 ghost use Rattle.kb_ways.specs.Asked.{all_asked};
-ghost use Rattle.kb_stepint.specs.Choices.{branch_conditions, choices_of, conditions_of, divisor_conditions, key_conditions};
-ghost use Rattle.kb_stepint.specs.Questions.{HasTermsOf, asks_for};
-ghost use Rattle.kb_ways.specs.Needs.{CanStep, HasTerms, IsSide};
+ghost use Rattle.kb_stepint.specs.Choices.{branch_conditions, choices_of, divisor_conditions, key_conditions};
+ghost use Rattle.kb_stepint.specs.Looks.{IsLookAt};
+ghost use Rattle.kb_stepint.specs.Questions.{HasTermsOf, asks_for, conditions_by};
+ghost use Rattle.kb_ways.specs.Needs.{HasTerms, IsFor, IsSide};
 ghost use Rattle.kb_ways.specs.Reached.{HasNoHandlers, IsAlone, IsReached};
 ghost use Rattle.kb_stepint.specs.Laws.{IsAtInts};
-ghost use Rattle.kb_stepint.specs.Takes.{taken};
-ghost use Rattle.kb_ways.specs.Plans.{takes_up};
-ghost use Rattle.kb_ways.specs.Turns.{told};
+ghost use Rattle.kb_stepint.specs.Takes.{reads_argument, taken};
+ghost use Rattle.kb_ways.specs.Plans.{takes_none};
+ghost use Rattle.kb_ways.specs.Turns.{led_by, told};
 ghost use Rattle.kb_stepint.specs.Keys.{keys_of};
-ghost use Rattle.kb_stepint.specs.Effects.{plan_of};
+ghost use Rattle.kb_stepint.specs.Effects.{effect_of};
 
 use crate::NoMemory;
 use crate::instructions::carry_out;
 use crate::keys::Keys;
-use crate::questions::{IntQuestion, question_of};
-use kb_code::{Cond, Instr};
+use crate::look::{Look, look_at};
+use crate::questions::IntQuestion;
+use kb_code::Cond;
 use kb_frames::{Outcome, SymState};
-use kb_heap::{Bound, Bounds};
-use kb_lookups::instruction_at;
-use kb_picture::{Choice, Origin, SymEnding};
+use kb_heap::Bounds;
+use kb_picture::{Choice, Origin};
 use kb_semantics::World;
 use kb_terms::TermId;
-use kb_ways::{Side, Turn, ask, branch_condition, equals_number, place_of};
+use kb_ways::{Side, Turn, ask, branch_condition, equals_number, takes_none};
 use std::alloc::Global;
 
 /// Takes an alternative that [`crate::choices_int`] lists for the state. An argument that is read is a new variable, and the
@@ -53,67 +55,94 @@ pub fn take_int(
     ensures take { IfOk result (λ outcome. told state.new outcome ≡ taken world.now bounds.now state.old choice.now) }
     ensures reached { OnOk result (IsReached world.now state.new) }
 {
-    let outcome = read_or_take_up(alloc, world, state, choice, bounds)?;
+    let look = look_at(alloc, world, state, bounds);
+    take_told(alloc, world, state, choice, bounds, &look)
+}
+
+/// Takes an alternative of the step at which was looked.
+pub(crate) fn take_told(
+    alloc: Global,
+    world: &World,
+    state: &mut SymState,
+    choice: &Choice,
+    bounds: &Bounds,
+    look: &Look<'_>,
+) -> Result<Outcome, NoMemory>
+    requires at { IsAtInts world.now state.old }
+    requires look { IsLookAt world.now bounds.now state.old look.now }
+    ensures take { IfOk result (λ outcome. told state.new outcome ≡ taken world.now bounds.now state.old choice.now) }
+    ensures reached { OnOk result (IsReached world.now state.new) }
+{
+    let outcome = read_or_take_up(alloc, world, state, choice, bounds, look)?;
+    // The terms that are lent are those of a pool, which a state that is reached must have.
     let _ = state.pool().nodes();
     Ok(outcome)
 }
 
-// Reads the next argument, or takes up the next instruction.
+// Takes up the instruction at which was looked, or reads the next argument.
 fn read_or_take_up(
     alloc: Global,
     world: &World,
     state: &mut SymState,
     choice: &Choice,
     bounds: &Bounds,
+    look: &Look<'_>,
 ) -> Result<Outcome, NoMemory>
-    requires { IsAtInts world.now state.old }
+    requires at { IsAtInts world.now state.old }
+    requires look { IsLookAt world.now bounds.now state.old look.now }
     ensures { IfOk result (λ outcome. told state.new outcome ≡ taken world.now bounds.now state.old choice.now) }
+{
+    match &look.turn {
+        Some(turn) => take_up(turn, state, choice, &look.question),
+        None => read_or_end(alloc, world, state, bounds),
+    }
+}
+
+// Takes up the instruction of a turn, by an alternative of what it must be told.
+fn take_up(
+    turn: &Turn<'_>,
+    state: &mut SymState,
+    choice: &Choice,
+    question: &Option<IntQuestion<'_>>,
+) -> Result<Outcome, NoMemory>
+    requires terms { HasTerms (begun turn.now.world.now state.old) }
+    requires stands { IsFor turn.now state.old }
+    requires asked { IfSome question.now (HasTermsOf state.old.nodes) }
+    ensures { IfOk result (λ outcome. told state.new outcome ≡ led_by turn.now (effect_of turn.now.world.now (all_asked (begun turn.now.world.now state.old) (conditions_by question.now choice.now)) choice.now turn.now.instr.now)) }
+{
+    state.begin(turn.world)?;
+    ask_for(state, question, choice)?;
+    carry_out(turn, state, choice)
+}
+
+// Reads the next argument; where all are read, no instruction is taken up.
+fn read_or_end(
+    alloc: Global,
+    world: &World,
+    state: &mut SymState,
+    bounds: &Bounds,
+) -> Result<Outcome, NoMemory>
+    ensures { IfOk result (λ outcome. told state.new outcome ≡ option_map_or (reads_argument state.old) (argument_next world.now state.old.method state.old.stage) (takes_none world.now bounds.now state.old)) }
 {
     if let Some(kind) = state.next_kind(world) {
         let argument = state.read_count()?;
         state.first_int(Origin::Arg(argument), kind)?;
         return Ok(Outcome::Asks);
     }
-    if bounds.run.steps <= state.carried() {
-        return Ok(Outcome::Cut(Bound::Steps));
-    }
-    state.begin(world)?;
-    take_up(alloc, world, state, choice, bounds)
+    takes_none(alloc, world, bounds, state)
 }
 
-// Takes up the next instruction of a run whose arguments are read.
-fn take_up(
-    alloc: Global,
-    world: &World,
+// Adds the conditions that an alternative asks for.
+fn ask_for(
     state: &mut SymState,
+    question: &Option<IntQuestion<'_>>,
     choice: &Choice,
-    bounds: &Bounds,
-) -> Result<Outcome, NoMemory>
-    requires { CanStep bounds.now state.old }
-    ensures { IfOk result (λ outcome. told state.new outcome ≡ takes_up plan_of world.now bounds.now choice.now state.old) }
+) -> Result<(), NoMemory>
+    requires { IfSome question.now (HasTermsOf state.old.nodes) }
+    ensures { OnOk result (state.new ≡ all_asked state.old (conditions_by question.now choice.now)) }
 {
-    let (method, at) = state.stands_at();
-    let Some(found) = instruction_at(world, method, at) else {
-        let place = place_of(alloc, world, state)?;
-        return Ok(Outcome::Ends(SymEnding::IllTyped(place)));
-    };
-    ask_for(state, found.instr, choice)?;
-    let turn = Turn {
-        alloc,
-        world,
-        bounds: *bounds,
-        next: found.next,
-    };
-    carry_out(&turn, state, choice, found.instr)
-}
-
-// Adds the conditions that an alternative of an instruction asks for.
-fn ask_for(state: &mut SymState, instr: &Instr, choice: &Choice) -> Result<(), NoMemory>
-    requires { HasTerms state.old }
-    ensures { OnOk result (state.new ≡ all_asked state.old (conditions_of instr.now (stack_of state.old.stage) choice.now)) }
-{
-    match question_of(state, instr) {
-        Some(question) => answer(state, &question, choice),
+    match question {
+        Some(question) => answer(state, question, choice),
         None => Ok(()),
     }
 }

@@ -1,11 +1,13 @@
 pub mod AnswerLaws
 pub mod AnsweredLaws
 pub mod CutLaws
+pub mod FieldReads
 pub mod FieldSlots
 pub mod FirstReadLaws
 pub mod FollowLaws
 pub mod KeepLaws
 pub mod LazyLaws
+pub mod LookLaws
 pub mod MeasureLaws
 pub mod MethodLaws
 pub mod MoreLaws

@@ -16,6 +16,9 @@ use Rattle.kb_stepref.specs.Fields.{put_in}
 use Rattle.kb_ways.specs.Plans.{followed, planned, plain}
 use Rattle.kb_ways.proofs.KeptLaws.{kept_is_in, kept_more}
 use Rattle.kb_ways.specs.Kept.{kept}
+use Rattle.kb_ways.specs.declared.turn.Turn.{Turn}
+use Rattle.kb_ways.specs.Needs.{IsFor}
+use Rattle.kb_ways.proofs.TurnLaws.{is_for_same}
 
 pub put_stage : (object : SymValue) (slot : ℕ) (value : SymValue) (state : State) → (put_in object slot value state).stage ≡ state.stage
 put_stage (Int term) slot value state = refl
@@ -24,6 +27,15 @@ put_stage (Obj number) slot value state = refl
 put_stage (Literal number) slot value state = refl
 put_stage (New number) slot value state = refl
 put_stage (Loc number) slot value state = refl
+
+-- and the turn of the instruction stays its turn
+pub put_is_for : (turn : Turn) (object : SymValue) (slot : ℕ) (value : SymValue) (state : State) → IsFor turn state → IsFor turn (put_in object slot value state)
+put_is_for turn (Obj number) slot value state h = is_for_same turn state (put_in (Obj number) slot value state) refl refl refl h
+put_is_for turn (New number) slot value state h = is_for_same turn state (put_in (New number) slot value state) refl refl refl h
+put_is_for turn (Int term) slot value state h = h
+put_is_for turn Null slot value state h = h
+put_is_for turn (Literal number) slot value state h = h
+put_is_for turn (Loc number) slot value state h = h
 
 -- the way on from the state in which what is kept was put is that of the plan
 pub put_led : (world : World) (bounds : Bounds) (next : ℕ) (state : State) (field : FieldSlot) (object value : SymValue) (it : State × SymValue) → kept field.kind value state ≡ Some it

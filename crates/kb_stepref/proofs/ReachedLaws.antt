@@ -1,7 +1,6 @@
 -- Each take of a state that is reached leaves one that is reached, and a picture of which an input can be made.
-use Rattle.std.proofs.Common.{◌≡◌, ◌⊎◌, inl, inr, ℕ, ◌<◌, Bool, true, false, [], Option, Some, None, refl, sym, ap, subst, ◌∙◌, if◌then◌else◌, length}
+use Rattle.std.proofs.Common.{◌≡◌, ℕ, Bool, true, false, [], Option, Some, None, refl, sym, ap, subst, ◌∙◌, if◌then◌else◌, length}
 use Rattle.std.specs.Option.{option_map_or}
-use Rattle.std.proofs.lemmas.Bool.{leb-false}
 use Rattle.kb_class.proofs.Lists.{all_has}
 use Rattle.kb_class.specs.Naming.{Has}
 use Rattle.kb_heap.specs.declared.bounds.Bound.{Bound}
@@ -26,26 +25,22 @@ use Rattle.kb_frames.specs.declared.value.Outcome.{Outcome}
 use Rattle.kb_frames.specs.declared.value.Outcome.TheVariants.{Asks, Goes, Ends, Cut}
 use Rattle.kb_frames.specs.declared.value.SymValue.{SymValue}
 use Rattle.kb_frames.specs.FirstReads.{first_int, first_reference, found_in}
-use Rattle.kb_frames.specs.Lent.{begun}
 use Rattle.kb_frames.specs.State.{State}
-use Rattle.kb_ways.specs.Needs.{CanStep}
 use Rattle.kb_ways.specs.Reached.{IsReached}
 use Rattle.kb_ways.specs.Simulation.{HasInputOfState}
 use Rattle.kb_ways.specs.Ways.{Take}
-use Rattle.kb_ways.proofs.SoundLaws.{Sound, begun_sound, reached_sound, sound_reached}
-use Rattle.kb_ways.proofs.TakeLaws.{sound_terms}
+use Rattle.kb_ways.proofs.SoundLaws.{Sound, reached_sound, sound_reached}
 use Rattle.kb_stepref.specs.Choices.{alternatives}
 use Rattle.kb_ways.specs.Advancing.{only}
 use Rattle.kb_stepref.specs.Laws.{IsAtReferences, OfTakes}
 use Rattle.kb_ways.specs.declared.question.Question.{Question}
 use Rattle.kb_ways.specs.declared.question.Question.TheVariants.{Reads}
 use Rattle.kb_stepref.specs.Questions.{question_of}
-use Rattle.kb_ways.specs.Questions.{answered, answers, cut_where, goes_behind, passed_by, slot_of}
+use Rattle.kb_ways.specs.Questions.{answered, answers, cut_where, goes_behind, passed_by}
 use Rattle.kb_stepref.specs.Takes.{taken}
 use Rattle.kb_ways.specs.Plans.{takes_next}
-use Rattle.kb_stepref.proofs.FirstReadLaws.{IsAskedAt, asked}
 use Rattle.kb_stepref.proofs.LazyLaws.{IsKnown as IsKnownChoice, known_choices, known_locs, known_no_beyond, seen_no_beyond}
-use Rattle.kb_stepref.proofs.SoundLaws.{SoundTo, answered_carried, answered_init, goes_behind_sound, none_asked, takes_next_sound, taken_sound, told_sound}
+use Rattle.kb_stepref.proofs.SoundLaws.{SoundTo, answered_init, goes_behind_sound, none_asked, takes_next_sound, taken_sound, told_sound}
 use Rattle.kb_picture.specs.declared.choice.Choice.TheVariants.{Only}
 use Rattle.kb_stepref.specs.Effects.{plan_of}
 use Rattle.kb_picture.specs.declared.picture.Seen.TheVariants as seens
@@ -86,7 +81,7 @@ known_on world old new h to = record {
 
 -- ---- an answer
 
-found_picture : (slot : Origin) (value : SymValue) (state : State) → (found_in slot value state).picture ≡ state.picture
+pub found_picture : (slot : Origin) (value : SymValue) (state : State) → (found_in slot value state).picture ≡ state.picture
 found_picture (Arg number) value state = refl
 found_picture (Field object place) value state = refl
 found_picture (Element array index) value state = refl
@@ -137,41 +132,6 @@ module _ (world : World) (bounds : Bounds) (state : State) (at : IsAtReferences 
         known = plain.0;
         within = plain.1;
       }
-
-  -- ---- the instruction behind it
-
-  -- a field that was told may be read
-  field_can_step : (object place : ℕ) → slot ≡ Field object place → CanStep bounds now
-  field_can_step object place is =
-      let from = subst (λ (s : Origin). IsAskedAt world bounds state s type) is (asked world bounds state at slot type asks).from in
-      record {
-        terms = sound_terms world now (told_sound world bounds state at slot type asks choice range has);
-        within = subst (λ (n : ℕ). n < bounds.run.steps) (sym (answered_carried world choice state slot type)) (leb-false bounds.run.steps state.carried from.within);
-      }
-
-  -- no element is asked for
-  pub answered_can_step : ((object : ℕ) × (place : ℕ) × (slot ≡ Field object place)) ⊎ ((array : ℕ) × (index : ℕ) × (slot ≡ Element array index)) → CanStep bounds now
-  answered_can_step (inl (object, place, is)) = field_can_step object place is
-  answered_can_step (inr (array, index, is)) = absurd (subst (λ (s : Origin). IsAskedAt world bounds state s type) is (asked world bounds state at slot type asks).from)
-
--- what is asked of a field is followed by its instruction
-abbrev IsInside : Origin → Type 0
-IsInside slot = ((object : ℕ) × (place : ℕ) × (slot ≡ Field object place)) ⊎ ((array : ℕ) × (index : ℕ) × (slot ≡ Element array index))
-
-pub question_can_step : (world : World) (bounds : Bounds) (state : State) → IsAtReferences world state → (question : Question) → question_of world state bounds ≡ Some question
-    → (choice : Choice) → AreInRange bounds → Has (alternatives world state bounds question) choice → (slot : Origin) → slot ≡ slot_of question → IsInside slot
-    → CanStep bounds (answered world choice state question)
-question_can_step world bounds state at (Reads slot type) asks choice range has it same is =
-    answered_can_step world bounds state at slot type asks choice range has (subst IsInside same is)
-
--- and so may be the next instruction where nothing is asked
-pub begun_can_step : (world : World) (bounds : Bounds) (state : State) → IsAtReferences world state → question_of world state bounds ≡ None → state.carried < bounds.run.steps
-    → CanStep bounds (begun world state)
-begun_can_step world bounds state at none less =
-    record {
-      terms = sound_terms world (begun world state) (begun_sound world state (sound_reached world state at.reached at.alone at.unhandled) (none_asked world bounds state none));
-      within = less;
-    }
 
 -- ---- where it goes on
 

@@ -1,7 +1,7 @@
 -- What the instructions on references do to a state: what they write, and the way on. Each is the counterpart of the machine's
 -- effect of the same instruction (JVMS 8 section 6.5), with symbolic values in the place of values. What a field of an object
 -- of the picture holds was told before, where it is read.
-use Rattle.std.specs.Prelude.{ℕ, Bool, List, ◌∷◌, length, drop, nat_lt, Some, None, cond, slice_set, if◌then◌else◌}
+use Rattle.std.specs.Prelude.{ℕ, Bool, List, ◌∷◌, length, drop, nat_lt, Option, Some, None, cond, slice_set, if◌then◌else◌}
 use Rattle.kb_code.specs.declared.instruction.Instr.{Instr}
 use Rattle.kb_code.specs.declared.instruction.Instr.TheVariants as instrs
 use Rattle.kb_classes.specs.World.{World}
@@ -67,10 +67,14 @@ returns_reference world state = planned state (a_reference (stack_of state.stage
 
 -- ---- getfield
 
+-- what was read stands in the place of the object; what was not is ill-typed
+abbrev pub reads : State → Option SymValue → Planned
+reads state value = planned state value (λ it. plain state (with_stack state (it ∷ drop 1 (stack_of state.stage))))
+
 -- null throws, and an object that has the field gives what it holds; one that lacks it is ill-typed
 abbrev pub got : World → State → FieldSlot → SymValue → Planned
 got world state field Null = plain state (Throws null_pointer)
-got world state field value = planned state (held world state field value) (λ it. plain state (with_stack state (it ∷ drop 1 (stack_of state.stage))))
+got world state field value = reads state (held world state field value)
 
 -- getfield: what is no reference is ill-typed before null is looked at
 abbrev pub gets : World → State → ℕ → Planned

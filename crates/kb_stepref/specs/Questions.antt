@@ -48,10 +48,14 @@ abbrev pub asked_at : World → State → Bounds → Option Question
 asked_at world state bounds =
     if nat_le bounds.run.steps state.carried then None else option_and_then (asked_by world state) (instruction_next world state.method state.stage)
 
+-- an argument is asked for before anything else
+abbrev pub argument_or : World → State → Option Question → Option Question
+argument_or world state asks =
+    option_map_or (λ (type : JType). Some (Reads (Arg (read_count state.stage)) type)) (argument_next world state.method state.stage) asks
+
 -- The question of a state: its next argument, or what its next instruction must be told.
 abbrev pub question_of : World → State → Bounds → Option Question
-question_of world state bounds =
-    option_map_or (λ (type : JType). Some (Reads (Arg (read_count state.stage)) type)) (argument_next world state.method state.stage) (asked_at world state bounds)
+question_of world state bounds = argument_or world state (asked_at world state bounds)
 
 -- something is chosen where a reference is read for the first time: an int or a boolean is a new variable
 abbrev pub is_choice : Option Question → Bool

@@ -10,7 +10,8 @@ ghost use Rattle.kb_ways.specs.Reached.{IsReached};
 
 use crate::NoMemory;
 use crate::choices::offered;
-use crate::questions::{is_choice, question_of};
+use crate::look::look_at;
+use crate::questions::is_choice;
 use crate::take::take_told;
 use kb_frames::SymState;
 use kb_heap::Bounds;
@@ -34,11 +35,11 @@ pub fn advance_ref(
     ensures advanced { IfOk result (IsAdvanced (choices_of world.now state.old bounds.now) (taken world.now bounds.now state.old Only) state.old state.new) }
     ensures reached { OnOk result (IsReached world.now state.new) }
 {
-    let question = question_of(alloc, world, state, bounds)?;
-    if is_choice(&question) {
-        let choices = offered(alloc, world, state, bounds, &question)?;
+    let look = look_at(alloc, world, state, bounds)?;
+    if is_choice(&look.question) {
+        let choices = offered(alloc, world, state, bounds, &look.question)?;
         return Ok(Advanced::Chooses(choices));
     }
-    let outcome = take_told(alloc, world, state, &Choice::Only, bounds, &question)?;
+    let outcome = take_told(alloc, world, state, &Choice::Only, bounds, &look)?;
     Ok(Advanced::Took(outcome))
 }

@@ -8,7 +8,7 @@ ghost use Rattle.kb_ways.specs.Advancing.{only};
 ghost use Rattle.kb_ways.specs.declared.question.Question.TheVariants.{Reads};
 
 use crate::NoMemory;
-use crate::questions::question_of;
+use crate::look::look_at;
 use kb_class::{MethodId, is_static};
 use kb_frames::{SymState, is_reference};
 use kb_heap::Bounds;
@@ -35,8 +35,8 @@ pub fn choices_ref(
     requires { IsAtReferences world.now state.now }
     ensures { IfOk result (λ choices. choices.items ≡ choices_of world.now state.now bounds.now) }
 {
-    let question = question_of(alloc, world, state, bounds)?;
-    offered(alloc, world, state, bounds, &question)
+    let look = look_at(alloc, world, state, bounds)?;
+    offered(alloc, world, state, bounds, &look.question)
 }
 
 /// The alternatives where that must be told, and the only way on where nothing must.

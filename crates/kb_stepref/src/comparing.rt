@@ -1,7 +1,8 @@
 //! Branches on references (JVMS 8 section 6.5). Under lazy initialisation each reference is null or a known object, so nothing
 //! is chosen.
-ghost use Rattle.std.specs.Prelude.{◌≡◌, ◌<◌, IfOk};
+ghost use Rattle.std.specs.Prelude.{◌≡◌, IfOk};
 ghost use Rattle.kb_semantics.specs.Instructions.{is_wanted};
+ghost use Rattle.kb_ways.specs.Needs.{IsFor};
 ghost use Rattle.kb_ways.specs.Turns.{led, told, led_by};
 ghost use Rattle.kb_stepref.specs.Comparing.{is_null, same};
 ghost use Rattle.kb_stepref.specs.Effects.{branch_where, branches_null, branches_same};
@@ -17,7 +18,7 @@ pub(crate) fn if_same(
     want: bool,
     target: u32,
 ) -> Result<Outcome, NoMemory>
-    requires { state.old.carried < turn.now.bounds.run.steps }
+    requires { IsFor turn.now state.old }
     ensures { IfOk result (λ outcome. told state.new outcome ≡ led_by turn.now (branches_same state.old want target)) }
 {
     match two_references(state) {
@@ -33,7 +34,7 @@ pub(crate) fn if_null(
     want: bool,
     target: u32,
 ) -> Result<Outcome, NoMemory>
-    requires { state.old.carried < turn.now.bounds.run.steps }
+    requires { IsFor turn.now state.old }
     ensures { IfOk result (λ outcome. told state.new outcome ≡ led_by turn.now (branches_null state.old want target)) }
 {
     match a_reference(state) {
@@ -75,7 +76,7 @@ fn branch(
     target: u32,
     count: usize,
 ) -> Result<Outcome, NoMemory>
-    requires { state.old.carried < turn.now.bounds.run.steps }
+    requires { IsFor turn.now state.old }
     ensures { IfOk result (λ outcome. told state.new outcome ≡ led turn.now state.old (branch_where state.old so target count)) }
 {
     if so {

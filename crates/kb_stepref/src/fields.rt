@@ -1,21 +1,33 @@
 //! The fields of objects: getfield and putfield (JVMS 8 section 6.5).
-ghost use Rattle.std.specs.Prelude.{◌≡◌, ◌<◌, drop, Some, IfOk, if◌then◌else◌};
+ghost use Rattle.std.specs.Prelude.{◌≡◌, drop, Some, IfOk, IfSome, option_and_then, if◌then◌else◌};
 ghost use Rattle.std.specs.Option.{option_copied};
-ghost use Rattle.kb_ways.specs.Needs.{CanStep, IsTermOf};
+ghost use Rattle.kb_ways.specs.Needs.{HasTerms, IsFor, IsTermOf};
 ghost use Rattle.kb_ways.specs.Turns.{led, led_by, told};
 ghost use Rattle.kb_frames.specs.Lent.{stack_of};
 ghost use Rattle.kb_ways.specs.Ways.{Fails, with_stack};
-ghost use Rattle.kb_stepref.specs.Effects.{got, gets, put, put_where, puts};
+ghost use Rattle.kb_frames.specs.Heaps.{value_of_cell};
+ghost use Rattle.kb_picture.specs.declared.choice.Choice.TheVariants.{Only};
+ghost use Rattle.kb_stepref.specs.Effects.{got, gets, plan_of, put, put_where, puts, reads};
+ghost use Rattle.kb_stepref.specs.Looks.{IsReadBy, asks_at};
+ghost use Rattle.kb_stepref.specs.Questions.{asked_by};
 ghost use Rattle.kb_ways.specs.Plans.{plain};
 ghost use Rattle.kb_stepref.specs.Fields.{cell_of, field_named, has_place, has_slot_of, held, made_value_of, put_in};
 
 use crate::NoMemory;
+use kb_code::Instr;
 use kb_frames::{Cell, Outcome, SymState, SymValue};
 use kb_lookups::{declaring_class, has_field};
 use kb_semantics::{FieldSlot, World};
 use kb_ways::{
     Turn, a_reference, an_object_and_value, has_room, ill_typed, keep, replaces, throws,
 };
+
+/// A field of an object of the picture, where that has it.
+#[derive(Clone, Copy)]
+pub(crate) struct FieldAt<'w> {
+    pub object: u32,
+    pub field: &'w FieldSlot,
+}
 
 const NULL_POINTER: &[u8] = b"java/lang/NullPointerException";
 
@@ -33,6 +45,28 @@ pub(crate) fn field_named<'w>(
     world.find_field(declaring_class(world, method), entry)
 }
 
+/// The field that a getfield reads of the object of the picture on the top of the stack.
+pub(crate) fn field_read<'w>(
+    world: &'w World,
+    state: &SymState,
+    instr: &Instr,
+) -> Option<FieldAt<'w>>
+    ensures read { IfSome result (IsReadBy world.now state.now instr.now) }
+    ensures asks { asked_by world.now state.now instr.now ≡ option_and_then (asks_at state.now) result }
+{
+    let Instr::GetField(entry) = instr else {
+        return None;
+    };
+    let field = field_named(world, state, *entry)?;
+    let Some(SymValue::Obj(object)) = state.value_at(0) else {
+        return None;
+    };
+    if !has_slot_of(world, state, field, SymValue::Obj(object)) {
+        return None;
+    }
+    Some(FieldAt { object, field })
+}
+
 // Whether the value is an object that has the field.
 fn has_slot_of(world: &World, state: &SymState, field: &FieldSlot, value: SymValue) -> bool
     ensures { result ≡ has_slot_of world.now state.now field.now value }
@@ -43,13 +77,8 @@ fn has_slot_of(world: &World, state: &SymState, field: &FieldSlot, value: SymVal
     }
 }
 
-/// The cell of the field in an object of the picture that has it.
-pub(crate) fn cell_of(
-    world: &World,
-    state: &SymState,
-    field: &FieldSlot,
-    number: u32,
-) -> Option<Cell>
+// The cell of the field in an object of the picture that has it.
+fn cell_of(world: &World, state: &SymState, field: &FieldSlot, number: u32) -> Option<Cell>
     ensures { result ≡ cell_of world.now state.now field.now number }
 {
     if !has_slot_of(world, state, field, SymValue::Obj(number)) {
@@ -81,7 +110,7 @@ pub(crate) fn get_field(
     state: &mut SymState,
     entry: u16,
 ) -> Result<Outcome, NoMemory>
-    requires { state.old.carried < turn.now.bounds.run.steps }
+    requires { IsFor turn.now state.old }
     ensures { IfOk result (λ outcome. told state.new outcome ≡ led_by turn.now (gets turn.now.world.now state.old entry)) }
 {
     let Some(field) = field_named(turn.world, state, entry) else {
@@ -99,15 +128,52 @@ fn get(
     field: &FieldSlot,
     object: SymValue,
 ) -> Result<Outcome, NoMemory>
-    requires { state.old.carried < turn.now.bounds.run.steps }
+    requires { IsFor turn.now state.old }
     ensures { IfOk result (λ outcome. told state.new outcome ≡ led_by turn.now (got turn.now.world.now state.old field.now object)) }
 {
     if let SymValue::Null = object {
         return throws(turn, state, NULL_POINTER);
     }
-    match held(turn.world, state, field, object) {
+    let value = held(turn.world, state, field, object);
+    push_read(turn, state, value)
+}
+
+/// getfield of a field that was found
+pub(crate) fn get_found(
+    turn: &Turn<'_>,
+    state: &mut SymState,
+    at: &FieldAt<'_>,
+) -> Result<Outcome, NoMemory>
+    requires stands { IsFor turn.now state.old }
+    requires read { IsReadBy turn.now.world.now state.old turn.now.instr.now at.now }
+    ensures { IfOk result (λ outcome. told state.new outcome ≡ led_by turn.now (plan_of turn.now.world.now state.old Only turn.now.instr.now)) }
+{
+    let value = value_of_cell(state.cell(at.object, at.field.slot));
+    push_read(turn, state, value)
+}
+
+// What was read stands in the place of the object.
+fn push_read(
+    turn: &Turn<'_>,
+    state: &mut SymState,
+    value: Option<SymValue>,
+) -> Result<Outcome, NoMemory>
+    requires { IsFor turn.now state.old }
+    ensures { IfOk result (λ outcome. told state.new outcome ≡ led_by turn.now (reads state.old value)) }
+{
+    match value {
         Some(value) => replaces(turn, state, 1, &[value]),
         None => ill_typed(turn, state),
+    }
+}
+
+// The value of a slot that was read or written.
+fn value_of_cell(cell: Option<Cell>) -> Option<SymValue>
+    ensures { result ≡ option_and_then value_of_cell cell }
+{
+    match cell? {
+        Cell::Read(value) | Cell::Written(value) => Some(value),
+        Cell::Untouched => None,
     }
 }
 
@@ -116,10 +182,7 @@ fn held(world: &World, state: &SymState, field: &FieldSlot, object: SymValue) ->
     ensures { result ≡ held world.now state.now field.now object }
 {
     match object {
-        SymValue::Obj(number) => match cell_of(world, state, field, number)? {
-            Cell::Read(value) | Cell::Written(value) => Some(value),
-            Cell::Untouched => None,
-        },
+        SymValue::Obj(number) => value_of_cell(cell_of(world, state, field, number)),
         SymValue::New(number) => made_value_of(world, state, field, number),
         SymValue::Int(_) | SymValue::Null | SymValue::Literal(_) | SymValue::Loc(_) => None,
     }
@@ -134,7 +197,8 @@ pub(crate) fn put_field(
     state: &mut SymState,
     entry: u16,
 ) -> Result<Outcome, NoMemory>
-    requires { CanStep turn.now.bounds state.old }
+    requires terms { HasTerms state.old }
+    requires stands { IsFor turn.now state.old }
     ensures { IfOk result (λ outcome. told state.new outcome ≡ led_by turn.now (puts turn.now.world.now state.old entry)) }
 {
     let Some(field) = field_named(turn.world, state, entry) else {
@@ -153,7 +217,8 @@ fn put(
     object: SymValue,
     value: SymValue,
 ) -> Result<Outcome, NoMemory>
-    requires step { CanStep turn.now.bounds state.old }
+    requires terms { HasTerms state.old }
+    requires stands { IsFor turn.now state.old }
     requires term { IsTermOf state.old.nodes (Some value) }
     ensures { IfOk result (λ outcome. told state.new outcome ≡ led_by turn.now (put turn.now.world.now state.old field.now object value)) }
 {
@@ -171,7 +236,8 @@ fn put_on(
     object: SymValue,
     value: SymValue,
 ) -> Result<Outcome, NoMemory>
-    requires step { CanStep turn.now.bounds state.old }
+    requires terms { HasTerms state.old }
+    requires stands { IsFor turn.now state.old }
     requires term { IsTermOf state.old.nodes (Some value) }
     ensures { IfOk result (λ outcome. told state.new outcome ≡ led_by turn.now (if has_place turn.now.world.now state.old field.now object then put_where turn.now.world.now state.old field.now object value else plain state.old Fails)) }
 {
@@ -196,7 +262,7 @@ fn put_kept(
     object: SymValue,
     value: SymValue,
 ) -> Result<Outcome, NoMemory>
-    requires { state.old.carried < turn.now.bounds.run.steps }
+    requires { IsFor turn.now state.old }
     ensures { IfOk result (λ outcome. told state.new outcome ≡ led turn.now (put_in object slot value state.old) (with_stack state.old (drop 2 (stack_of state.old.stage)))) }
 {
     put_in(state, object, slot, value);

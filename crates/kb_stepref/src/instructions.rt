@@ -1,29 +1,42 @@
 //! What each instruction on references does to a state (JVMS 8 section 6.5).
 ghost use Rattle.std.specs.Prelude.{◌≡◌, IfOk};
-ghost use Rattle.kb_ways.specs.Needs.{CanStep};
+ghost use Rattle.kb_ways.specs.Needs.{HasTerms, IsFor};
 ghost use Rattle.kb_ways.specs.Turns.{told, led_by};
 ghost use Rattle.kb_stepref.specs.Effects.{plan_of};
+ghost use Rattle.kb_stepref.specs.Looks.{IsReady};
 ghost use Rattle.kb_picture.specs.declared.choice.Choice.TheVariants.{Only};
 
 use crate::NoMemory;
 use crate::comparing::{if_null, if_same};
-use crate::fields::{get_field, put_field};
+use crate::fields::{FieldAt, get_field, get_found, put_field};
 use crate::locals::{load, store};
 use crate::returns::return_reference;
 use kb_code::Instr;
 use kb_frames::{Outcome, SymState, SymValue};
 use kb_ways::{Turn, ill_typed, replaces};
 
-/// Carries out an instruction to which nothing is left to be told.
+/// Carries out the instruction of a turn, to which nothing is left to be told, by the field that it was found to read.
 pub(crate) fn carry_out(
     turn: &Turn<'_>,
     state: &mut SymState,
-    instr: &Instr,
+    field: &Option<FieldAt<'_>>,
 ) -> Result<Outcome, NoMemory>
-    requires { CanStep turn.now.bounds state.old }
-    ensures { IfOk result (λ outcome. told state.new outcome ≡ led_by turn.now (plan_of turn.now.world.now state.old Only instr.now)) }
+    requires { IsReady turn.now field.now state.old }
+    ensures { IfOk result (λ outcome. told state.new outcome ≡ led_by turn.now (plan_of turn.now.world.now state.old Only turn.now.instr.now)) }
 {
-    match instr {
+    match field {
+        Some(at) => get_found(turn, state, at),
+        None => by_instruction(turn, state),
+    }
+}
+
+// Carries out the instruction of a turn.
+fn by_instruction(turn: &Turn<'_>, state: &mut SymState) -> Result<Outcome, NoMemory>
+    requires terms { HasTerms state.old }
+    requires stands { IsFor turn.now state.old }
+    ensures { IfOk result (λ outcome. told state.new outcome ≡ led_by turn.now (plan_of turn.now.world.now state.old Only turn.now.instr.now)) }
+{
+    match turn.instr {
         Instr::PushNull => replaces(turn, state, 0, &[SymValue::Null]),
         Instr::LoadRef(local) => load(turn, state, *local),
         Instr::StoreRef(local) => store(turn, state, *local),

@@ -12,6 +12,7 @@ mod fields;
 mod instructions;
 mod laws;
 mod locals;
+mod look;
 mod questions;
 mod returns;
 mod take;

@@ -1,6 +1,7 @@
 //! Instructions on locals that are references (JVMS 8 section 6.5).
-ghost use Rattle.std.specs.Prelude.{◌≡◌, ◌<◌, cond, drop, None, IfOk};
+ghost use Rattle.std.specs.Prelude.{◌≡◌, cond, drop, None, IfOk};
 ghost use Rattle.kb_frames.specs.Lent.{local_in, stack_of};
+ghost use Rattle.kb_ways.specs.Needs.{IsFor};
 ghost use Rattle.kb_ways.specs.Turns.{led, told, led_by};
 ghost use Rattle.kb_stepref.specs.Effects.{in_local, is_local, loads, stores};
 ghost use Rattle.kb_ways.specs.Operands.{reference};
@@ -11,7 +12,7 @@ use kb_ways::{Turn, a_reference, carry_on, has_room, ill_typed, is_local, refere
 
 /// aload
 pub(crate) fn load(turn: &Turn<'_>, state: &mut SymState, local: u16) -> Result<Outcome, NoMemory>
-    requires { state.old.carried < turn.now.bounds.run.steps }
+    requires { IsFor turn.now state.old }
     ensures { IfOk result (λ outcome. told state.new outcome ≡ led_by turn.now (loads turn.now.world.now state.old local)) }
 {
     match local_at(turn, state, local) {
@@ -22,7 +23,7 @@ pub(crate) fn load(turn: &Turn<'_>, state: &mut SymState, local: u16) -> Result<
 
 /// astore
 pub(crate) fn store(turn: &Turn<'_>, state: &mut SymState, local: u16) -> Result<Outcome, NoMemory>
-    requires { state.old.carried < turn.now.bounds.run.steps }
+    requires { IsFor turn.now state.old }
     ensures { IfOk result (λ outcome. told state.new outcome ≡ led_by turn.now (stores turn.now.world.now state.old local)) }
 {
     match a_reference(state) {
@@ -33,6 +34,7 @@ pub(crate) fn store(turn: &Turn<'_>, state: &mut SymState, local: u16) -> Result
 
 // The reference of a local that lies below the limit.
 fn local_at(turn: &Turn<'_>, state: &SymState, local: u16) -> Option<SymValue>
+    requires { IsFor turn.now state.now }
     ensures { result ≡ reference (cond (is_local turn.now.world.now state.now local) (local_in state.now.stage local) None) }
 {
     if !is_local(turn, state, local) {
@@ -48,7 +50,7 @@ fn set(
     local: u16,
     value: SymValue,
 ) -> Result<Outcome, NoMemory>
-    requires { state.old.carried < turn.now.bounds.run.steps }
+    requires { IsFor turn.now state.old }
     ensures { IfOk result (λ outcome. told state.new outcome ≡ led turn.now state.old (in_local turn.now.world.now state.old local value (drop 1 (stack_of state.old.stage)))) }
 {
     if !is_local(turn, state, local) {

@@ -1,74 +1,46 @@
 //! What a step must be told before it can be carried out.
-ghost use Rattle.std.specs.Prelude.{◌≡◌, slice_get, IfOk};
-ghost use Rattle.kb_frames.specs.Lent.{stack_of};
-ghost use Rattle.kb_stepref.specs.Questions.{asked_by, asks_cell, asks_field, is_choice, question_of};
+ghost use Rattle.std.specs.Prelude.{◌≡◌, option_and_then, IfOk};
+ghost use Rattle.kb_stepref.specs.Looks.{asks_at};
+ghost use Rattle.kb_stepref.specs.Questions.{argument_or, asks_cell, is_choice};
 
 use crate::NoMemory;
-use crate::fields::{cell_of, field_named};
-use kb_code::Instr;
-use kb_frames::{Cell, SymState, SymValue, is_reference};
-use kb_heap::Bounds;
-use kb_lookups::instruction_at;
+use crate::fields::FieldAt;
+use kb_frames::{Cell, SymState, is_reference};
 use kb_picture::Origin;
 use kb_semantics::{FieldSlot, World};
 use kb_ways::Question;
 use std::alloc::Global;
 
-/// The question of a state: its next argument, or what its next instruction must be told.
+/// The question of a state: its next argument, or what is asked of the field that its next instruction reads.
 pub(crate) fn question_of(
     alloc: Global,
     world: &World,
     state: &SymState,
-    bounds: &Bounds,
+    field: &Option<FieldAt<'_>>,
 ) -> Result<Option<Question>, NoMemory>
-    ensures { IfOk result (λ asked. asked ≡ question_of world.now state.now bounds.now) }
+    ensures { IfOk result (λ asked. asked ≡ argument_or world.now state.now (option_and_then (asks_at state.now) field.now)) }
 {
     if let Some(kind) = state.next_type(alloc, world)? {
         let slot = Origin::Arg(state.read_count()?);
         return Ok(Some(Question::Reads(slot, kind)));
     }
-    if bounds.run.steps <= state.carried() {
-        return Ok(None);
-    }
-    let (method, at) = state.stands_at();
-    match instruction_at(world, method, at) {
-        Some(found) => asked_by(alloc, world, state, found.instr),
-        None => Ok(None),
-    }
+    asked_of(alloc, state, field)
 }
 
-// What an instruction asks in a state.
-fn asked_by(
+// What is asked of a field that is read.
+fn asked_of(
     alloc: Global,
-    world: &World,
     state: &SymState,
-    instr: &Instr,
+    field: &Option<FieldAt<'_>>,
 ) -> Result<Option<Question>, NoMemory>
-    ensures { IfOk result (λ asked. asked ≡ asked_by world.now state.now instr.now) }
+    ensures { IfOk result (λ asked. asked ≡ option_and_then (asks_at state.now) field.now) }
 {
-    let Instr::GetField(entry) = instr else {
-        return Ok(None);
-    };
-    match field_named(world, state, *entry) {
-        Some(field) => asks_field(alloc, world, state, field),
-        None => Ok(None),
-    }
-}
-
-// What a field of the object on the top of the stack asks.
-fn asks_field(
-    alloc: Global,
-    world: &World,
-    state: &SymState,
-    field: &FieldSlot,
-) -> Result<Option<Question>, NoMemory>
-    ensures { IfOk result (λ asked. asked ≡ asks_field world.now state.now field.now (slice_get (stack_of state.now.stage) 0)) }
-{
-    match state.value_at(0) {
-        Some(SymValue::Obj(number)) => {
-            asks_cell(alloc, number, field, cell_of(world, state, field, number))
+    match field {
+        Some(at) => {
+            let cell = state.cell(at.object, at.field.slot);
+            asks_cell(alloc, at.object, at.field, cell)
         }
-        _ => Ok(None),
+        None => Ok(None),
     }
 }
 

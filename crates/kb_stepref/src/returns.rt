@@ -1,6 +1,6 @@
 //! The return of a reference (JVMS 8 section 6.5). For now no method calls another: the run ends.
 ghost use Rattle.std.specs.Prelude.{◌≡◌, IfOk};
-ghost use Rattle.kb_ways.specs.Needs.{CanStep};
+ghost use Rattle.kb_ways.specs.Needs.{HasTerms, IsFor};
 ghost use Rattle.kb_ways.specs.Turns.{led_by, told};
 ghost use Rattle.kb_stepref.specs.Effects.{returns_reference};
 
@@ -11,7 +11,8 @@ use kb_ways::{Turn, a_reference, ill_typed, return_value};
 /// areturn
 #[tactic(auto, using(kb_ways::proofs::OperandLaws::reference_there))]
 pub(crate) fn return_reference(turn: &Turn<'_>, state: &mut SymState) -> Result<Outcome, NoMemory>
-    requires { CanStep turn.now.bounds state.old }
+    requires terms { HasTerms state.old }
+    requires stands { IsFor turn.now state.old }
     ensures { IfOk result (λ outcome. told state.new outcome ≡ led_by turn.now (returns_reference turn.now.world.now state.old)) }
 {
     match a_reference(state) {

@@ -1,28 +1,29 @@
 //! What a state becomes when an alternative is taken.
-ghost use Rattle.std.specs.Prelude.{◌≡◌, Some, None, IfOk, OnOk};
+ghost use Rattle.std.specs.Prelude.{◌≡◌, Some, None, IfOk, IfSome, OnOk};
 ghost use Rattle.kb_class.specs.Naming.{Has};
-ghost use Rattle.kb_ways.specs.Needs.{CanStep};
+ghost use Rattle.kb_frames.specs.Lent.{begun};
 ghost use Rattle.kb_ways.specs.Reached.{IsReached};
-ghost use Rattle.kb_ways.specs.Turns.{told};
+ghost use Rattle.kb_ways.specs.Turns.{led_by, told};
 ghost use Rattle.kb_stepref.specs.Choices.{alternatives, choices_of};
 ghost use Rattle.kb_lazy.specs.Laws.{AreInRange};
 ghost use Rattle.kb_stepref.specs.Laws.{IsAtReferences};
+ghost use Rattle.kb_stepref.specs.Looks.{IsLookAt, IsReady, behind};
 ghost use Rattle.kb_stepref.specs.Questions.{question_of};
 ghost use Rattle.kb_stepref.specs.Takes.{taken};
 ghost use Rattle.kb_ways.specs.Questions.{answers};
-ghost use Rattle.kb_ways.specs.Plans.{takes_next, takes_up};
+ghost use Rattle.kb_ways.specs.Plans.{takes_next};
 ghost use Rattle.kb_picture.specs.declared.choice.Choice.TheVariants.{Only};
 ghost use Rattle.kb_stepref.specs.Effects.{plan_of};
 
 use crate::NoMemory;
+use crate::fields::FieldAt;
 use crate::instructions::carry_out;
-use crate::questions::question_of;
+use crate::look::{Look, look_at};
 use kb_frames::{Outcome, SymState};
-use kb_heap::{Bound, Bounds};
-use kb_lookups::instruction_at;
-use kb_picture::{Choice, Origin, SymEnding};
+use kb_heap::Bounds;
+use kb_picture::Choice;
 use kb_semantics::World;
-use kb_ways::{Question, Turn, answer, passed_by, place_of, slot_of};
+use kb_ways::{Question, Turn, answer, passed_by, takes_none};
 use std::alloc::Global;
 
 /// Takes an alternative that [`crate::choices_ref`] lists for the state. What was chosen for a slot that is read for the first
@@ -46,27 +47,27 @@ pub fn take_ref(
     ensures take { IfOk result (λ outcome. told state.new outcome ≡ taken world.now bounds.now state.old choice.now) }
     ensures reached { OnOk result (IsReached world.now state.new) }
 {
-    let question = question_of(alloc, world, state, bounds)?;
-    take_told(alloc, world, state, choice, bounds, &question)
+    let look = look_at(alloc, world, state, bounds)?;
+    take_told(alloc, world, state, choice, bounds, &look)
 }
 
-/// Takes an alternative of what the next step must be told.
+/// Takes an alternative of the step at which was looked.
 pub(crate) fn take_told(
     alloc: Global,
     world: &World,
     state: &mut SymState,
     choice: &Choice,
     bounds: &Bounds,
-    question: &Option<Question>,
+    look: &Look<'_>,
 ) -> Result<Outcome, NoMemory>
     requires at { IsAtReferences world.now state.old }
-    requires asks { question_of world.now state.old bounds.now ≡ question.now }
+    requires look { IsLookAt world.now bounds.now state.old look.now }
     requires listed { Has (choices_of world.now state.old bounds.now) choice.now }
     requires range { AreInRange bounds.now }
     ensures take { IfOk result (λ outcome. told state.new outcome ≡ taken world.now bounds.now state.old choice.now) }
     ensures reached { OnOk result (IsReached world.now state.new) }
 {
-    let outcome = answer_or_go_on(alloc, world, state, choice, bounds, question)?;
+    let outcome = answer_or_go_on(alloc, world, state, choice, bounds, look)?;
     // The terms that are lent are those of a pool, which a state that is reached must have.
     let _ = state.pool().nodes();
     Ok(outcome)
@@ -79,42 +80,51 @@ fn answer_or_go_on(
     state: &mut SymState,
     choice: &Choice,
     bounds: &Bounds,
-    question: &Option<Question>,
+    look: &Look<'_>,
 ) -> Result<Outcome, NoMemory>
     requires at { IsAtReferences world.now state.old }
-    requires asks { question_of world.now state.old bounds.now ≡ question.now }
+    requires look { IsLookAt world.now bounds.now state.old look.now }
     requires listed { Has (choices_of world.now state.old bounds.now) choice.now }
     requires range { AreInRange bounds.now }
     ensures { IfOk result (λ outcome. told state.new outcome ≡ taken world.now bounds.now state.old choice.now) }
 {
-    match question {
-        Some(question) => take_answer(alloc, world, state, choice, bounds, question),
-        None => take_next(alloc, world, state, bounds),
+    match &look.question {
+        Some(question) => take_answer(world, state, choice, bounds, look, question),
+        None => take_next(alloc, world, state, bounds, look),
     }
 }
 
 // Puts an answer into the state, which is cut by it or goes on.
 fn take_answer(
-    alloc: Global,
     world: &World,
     state: &mut SymState,
     choice: &Choice,
-    bounds: &Bounds,
+    _bounds: &Bounds,
+    look: &Look<'_>,
     question: &Question,
 ) -> Result<Outcome, NoMemory>
     requires at { IsAtReferences world.now state.old }
-    requires asks { question_of world.now state.old bounds.now ≡ Some question.now }
-    requires listed { Has (alternatives world.now state.old bounds.now question.now) choice.now }
-    requires range { AreInRange bounds.now }
-    ensures { IfOk result (λ outcome. told state.new outcome ≡ answers plan_of world.now bounds.now choice.now state.old question.now) }
+    requires look { IsLookAt world.now _bounds.now state.old look.now }
+    requires asks { question_of world.now state.old _bounds.now ≡ Some question.now }
+    requires listed { Has (alternatives world.now state.old _bounds.now question.now) choice.now }
+    requires range { AreInRange _bounds.now }
+    ensures { IfOk result (λ outcome. told state.new outcome ≡ answers plan_of world.now _bounds.now choice.now state.old question.now) }
 {
     answer(world, state, choice, question)?;
-    if let Some(bound) = passed_by(choice) {
-        return Ok(Outcome::Cut(bound));
+    match passed_by(choice) {
+        Some(bound) => Ok(Outcome::Cut(bound)),
+        None => go_behind(state, look),
     }
-    match slot_of(question) {
-        Origin::Arg(_) => Ok(Outcome::Asks),
-        Origin::Field(..) | Origin::Element(..) => take_up(alloc, world, state, bounds),
+}
+
+// What comes behind an answer: the instruction that reads the slot, or the next choice where an argument was read.
+fn go_behind(state: &mut SymState, look: &Look<'_>) -> Result<Outcome, NoMemory>
+    requires { IfSome look.now.turn (λ turn. IsReady turn look.now.field state.old) }
+    ensures { IfOk result (λ outcome. told state.new outcome ≡ behind look.now.turn state.old) }
+{
+    match &look.turn {
+        Some(turn) => carry_out(turn, state, &look.field),
+        None => Ok(Outcome::Asks),
     }
 }
 
@@ -124,38 +134,28 @@ fn take_next(
     world: &World,
     state: &mut SymState,
     bounds: &Bounds,
+    look: &Look<'_>,
 ) -> Result<Outcome, NoMemory>
     requires at { IsAtReferences world.now state.old }
+    requires look { IsLookAt world.now bounds.now state.old look.now }
     requires nothing { question_of world.now state.old bounds.now ≡ None }
     ensures { IfOk result (λ outcome. told state.new outcome ≡ takes_next plan_of world.now bounds.now Only state.old) }
 {
-    if bounds.run.steps <= state.carried() {
-        return Ok(Outcome::Cut(Bound::Steps));
+    match &look.turn {
+        Some(turn) => take_up(turn, state, &look.field),
+        None => takes_none(alloc, world, bounds, state),
     }
-    state.begin(world)?;
-    take_up(alloc, world, state, bounds)
 }
 
-// Takes up the next instruction.
+// Takes up the instruction of a turn.
 fn take_up(
-    alloc: Global,
-    world: &World,
+    turn: &Turn<'_>,
     state: &mut SymState,
-    bounds: &Bounds,
+    field: &Option<FieldAt<'_>>,
 ) -> Result<Outcome, NoMemory>
-    requires { CanStep bounds.now state.old }
-    ensures { IfOk result (λ outcome. told state.new outcome ≡ takes_up plan_of world.now bounds.now Only state.old) }
+    requires { IsReady turn.now field.now (begun turn.now.world.now state.old) }
+    ensures { IfOk result (λ outcome. told state.new outcome ≡ led_by turn.now (plan_of turn.now.world.now (begun turn.now.world.now state.old) Only turn.now.instr.now)) }
 {
-    let (method, at) = state.stands_at();
-    let Some(found) = instruction_at(world, method, at) else {
-        let place = place_of(alloc, world, state)?;
-        return Ok(Outcome::Ends(SymEnding::IllTyped(place)));
-    };
-    let turn = Turn {
-        alloc,
-        world,
-        bounds: *bounds,
-        next: found.next,
-    };
-    carry_out(&turn, state, found.instr)
+    state.begin(turn.world)?;
+    carry_out(turn, state, field)
 }

@@ -65,9 +65,6 @@ kept_is_in type value state it e = go (is_of_kind type value) e where
   go true e = same_Some {A = State × SymValue} (kept_in type value state) it e
   go false e = absurd (none-some it e)
 
-pub kept_carried : (type : JType) (value : SymValue) (state : State) (it : State × SymValue) → kept type value state ≡ Some it → it.0.carried ≡ state.carried
-kept_carried type value state it e = ap (λ (k : State × SymValue). k.0.carried) (sym (kept_is_in type value state it e)) ∙ ap (λ (s : State). s.carried) (kept_more type value state).rest
-
 -- ---- what is returned
 
 -- a return has what each result that is kept gives it

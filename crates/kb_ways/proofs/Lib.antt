@@ -19,6 +19,7 @@ pub mod SoundLaws
 pub mod StepLaws
 pub mod TakeLaws
 pub mod TermLaws
+pub mod TurnLaws
 pub mod ValueLaws
 pub mod KeptLaws
 pub mod OperandLaws

@@ -1,6 +1,8 @@
 -- What the functions of a step need of a state and of conditions.
 use Rattle.std.specs.Prelude.{◌≡◌, ℕ, ◌<◌, true, List, Option, Some, slice_get}
 use Rattle.kb_heap.specs.declared.bounds.Bounds.{Bounds}
+use Rattle.kb_classes.specs.World.{World}
+use Rattle.kb_semantics.specs.Config.{code_of}
 use Rattle.kb_terms.specs.declared.node.Node.{Node}
 use Rattle.kb_terms.specs.Op.{is_binary}
 use Rattle.kb_terms.specs.Terms.{IsTerm}
@@ -8,9 +10,11 @@ use Rattle.kb_frames.specs.declared.value.SymValue.{SymValue}
 use Rattle.kb_frames.specs.declared.value.SymValue.TheVariants.{Int}
 use Rattle.kb_frames.specs.State.{State}
 use Rattle.kb_frames.specs.Lent.{stack_of, local_in}
+use Rattle.kb_frames.specs.Next.{method_now, offset_now}
 use Rattle.kb_ways.specs.declared.condition.Side.{Side}
 use Rattle.kb_ways.specs.declared.condition.Side.TheVariants.{Term, Number}
 use Rattle.kb_ways.specs.declared.condition.Condition.{Condition}
+use Rattle.kb_ways.specs.declared.turn.Turn.{Turn}
 
 -- ---- terms
 
@@ -24,7 +28,22 @@ pub record HasTerms (state : State) : Type 0 where
   pub stack : (depth : ℕ) → IsTermOf state.nodes (slice_get (stack_of state.stage) depth)
   pub locals : (number : ℕ) → IsTermOf state.nodes (local_in state.stage number)
 
--- an instruction may be carried out in the state
+-- What a turn holds is what the current frame of the state stands at, and the bound on steps is not spent.
+pub record IsFor (turn : Turn) (state : State) : Type 0 where
+  pub within : state.carried < turn.bounds.run.steps
+  pub method : turn.method ≡ method_now state.method state.stage
+  pub at : turn.at ≡ offset_now state.stage
+  pub code : code_of turn.world.now (method_now state.method state.stage) ≡ Some turn.code.now
+
+-- it is the turn of the instruction at which the state stands, in this world and within these bounds
+pub record IsTurnAt (world : World) (bounds : Bounds) (state : State) (turn : Turn) : Type 0 where
+  pub world_is : turn.world.now ≡ world
+  pub bounds_are : turn.bounds ≡ bounds
+  pub method : turn.method ≡ method_now state.method state.stage
+  pub at : turn.at ≡ offset_now state.stage
+  pub code : code_of world (method_now state.method state.stage) ≡ Some turn.code.now
+
+-- an instruction may be taken up in the state
 pub record CanStep (bounds : Bounds) (state : State) : Type 0 where
   pub terms : HasTerms state
   pub within : state.carried < bounds.run.steps

@@ -1,7 +1,7 @@
 -- What an instruction does to a state, and what surrounds it. An instruction makes terms and writes into the state, asks for
 -- what was chosen, and has a way on; a family of instructions has a plan, which says so of each of its own, with symbolic
 -- values in the place of values (JVMS 8 section 6.5). The bound on steps and the end of the code are the same for all.
-use Rattle.std.specs.Prelude.{ℕ, nat_le, Option, Some, option_and_then, if◌then◌else◌}
+use Rattle.std.specs.Prelude.{ℕ, nat_le, is_some, ◌||◌, Option, Some, None, option_and_then, if◌then◌else◌}
 use Rattle.std.specs.Option.{option_map_or}
 use Rattle.kb_code.specs.declared.instruction.Instr.{Instr}
 use Rattle.kb_heap.specs.declared.bounds.Bound.TheVariants.{Steps}
@@ -13,7 +13,7 @@ use Rattle.kb_picture.specs.declared.choice.Choice.{Choice}
 use Rattle.kb_frames.specs.declared.value.Outcome.TheVariants.{Cut}
 use Rattle.kb_frames.specs.declared.value.SymValue.{SymValue}
 use Rattle.kb_frames.specs.Lent.{begun}
-use Rattle.kb_frames.specs.Next.{method_now, offset_now}
+use Rattle.kb_frames.specs.Next.{argument_next, method_now, offset_now}
 use Rattle.kb_frames.specs.State.{State}
 use Rattle.kb_ways.specs.Kept.{kept}
 use Rattle.kb_ways.specs.Ways.{Take, Way, Leaves, Fails, ill_typed, went}
@@ -50,6 +50,18 @@ returns_value world state value =
 -- a plan is followed, where `next` is the offset behind the instruction
 abbrev pub followed : World → Bounds → ℕ → Planned → Take
 followed world bounds next plan = went world bounds next plan.state plan.way
+
+-- The instruction that is taken up, and the offset behind it: None where an argument is read first, where as many instructions
+-- were carried out as may be, and where the code has run off its end.
+abbrev pub taken_up : World → Bounds → State → Option (Instr × ℕ)
+taken_up world bounds state =
+    if is_some (argument_next world state.method state.stage) || nat_le bounds.run.steps state.carried then None
+    else instruction_at world (method_now state.method state.stage) (offset_now state.stage)
+
+-- where none is of a run whose arguments are read, it is cut at the bound on steps, or its code has run off its end
+abbrev pub takes_none : World → Bounds → State → Take
+takes_none world bounds state =
+    if nat_le bounds.run.steps state.carried then record { state = state; outcome = Cut Steps } else ill_typed world (begun world state)
 
 -- an instruction is carried out
 abbrev pub carried_out : Plan → World → Bounds → Choice → State → Instr × ℕ → Take

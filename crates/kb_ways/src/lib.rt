@@ -30,10 +30,9 @@ pub use method::{is_local, result_of};
 pub use operands::{
     a_reference, an_int, an_object_and_value, int_term, reference, two_ints, two_references,
 };
-pub use place::place_of;
-pub use question::{Question, slot_of};
+pub use question::Question;
 pub use returns::return_value;
 pub use std::alloc::AllocError as NoMemory;
 pub use terms::{constant, make};
-pub use turn::Turn;
-pub use ways::{carry_on, has_room, ill_typed, jumps, replaces, throws};
+pub use turn::{Turn, taken_up};
+pub use ways::{carry_on, has_room, ill_typed, jumps, replaces, takes_none, throws};

@@ -1,7 +1,7 @@
 //! What a method returns. For now no method calls another: the run ends.
 ghost use Rattle.std.specs.Prelude.{◌≡◌, Some, IfOk};
 ghost use Rattle.kb_frames.specs.StandsFor.{out_of};
-ghost use Rattle.kb_ways.specs.Needs.{IsTermOf};
+ghost use Rattle.kb_ways.specs.Needs.{IsFor, IsTermOf};
 ghost use Rattle.kb_ways.specs.Plans.{returns_value};
 ghost use Rattle.kb_ways.specs.Turns.{led_by, told};
 
@@ -19,11 +19,11 @@ pub fn return_value(
     state: &mut SymState,
     value: SymValue,
 ) -> Result<Outcome, NoMemory>
-    requires { IsTermOf state.old.nodes (Some value) }
+    requires term { IsTermOf state.old.nodes (Some value) }
+    requires stands { IsFor turn.now state.old }
     ensures { IfOk result (λ outcome. told state.new outcome ≡ led_by turn.now (returns_value turn.now.world.now state.old value)) }
 {
-    let (method, _) = state.stands_at();
-    let Some(kind) = result_of(turn.world, method) else {
+    let Some(kind) = result_of(turn.world, turn.method) else {
         return ill_typed(turn, state);
     };
     match keep(state, kind, value)? {

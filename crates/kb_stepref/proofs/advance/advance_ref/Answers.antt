@@ -12,17 +12,17 @@ use Rattle.kb_stepref.proofs.advance.advance_ref.Goals as goal
 pub take_told-requires-clause-listed : goal.take_told-requires-clause-listed
 take_told-requires-clause-listed c =
     subst (λ (choices : List Choice). Has choices Only)
-    (sym (only_at c.args.world.now c.args.bounds.now c.args.state.now c.in_ok-question.question c.in_ok-question.ensures (sym c.is_choice.ensures ∙ c.if-is_choice.false))) (0, refl)
+    (sym (only_at c.args.world.now c.args.bounds.now c.args.state.now c.in_ok-look.look.question (sym c.in_ok-look.ensures.question) (sym c.is_choice.ensures ∙ c.if-is_choice.false))) (0, refl)
 
 pub returns-then-is_choice-clause-advanced : goal.returns-then-is_choice-clause-advanced
 returns-then-is_choice-clause-advanced c = (
   refl,
-  c.in_ok-choices.ensures ∙ ap (λ (q : Option Question). option_map_or (alternatives c.args.world.now c.args.state.now c.args.bounds.now) q only) c.in_ok-question.ensures,
-  chosen_at c.args.world.now c.args.bounds.now c.args.state.now c.requires.at.lazy c.in_ok-question.question c.in_ok-question.ensures (sym c.is_choice.ensures ∙ c.if-is_choice.true),
+  c.in_ok-choices.ensures ∙ ap (λ (q : Option Question). option_map_or (alternatives c.args.world.now c.args.state.now c.args.bounds.now) q only) (sym c.in_ok-look.ensures.question),
+  chosen_at c.args.world.now c.args.bounds.now c.args.state.now c.requires.at.lazy c.in_ok-look.look.question (sym c.in_ok-look.ensures.question) (sym c.is_choice.ensures ∙ c.if-is_choice.true),
 )
 
 pub returns-clause-advanced : goal.returns-clause-advanced
 returns-clause-advanced c = (
-  only_at c.args.world.now c.args.bounds.now c.args.state.now c.in_ok-question.question c.in_ok-question.ensures (sym c.is_choice.ensures ∙ c.if-is_choice.false),
+  only_at c.args.world.now c.args.bounds.now c.args.state.now c.in_ok-look.look.question (sym c.in_ok-look.ensures.question) (sym c.is_choice.ensures ∙ c.if-is_choice.false),
   c.in_ok-outcome.ensures.take,
 )

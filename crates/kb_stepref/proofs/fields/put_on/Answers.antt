@@ -1,4 +1,4 @@
-use Rattle.std.proofs.Common.{rules, ◌≡◌, ℕ, ◌<◌, Bool, true, Some, IfOk, option_map, ◌+◌, length, drop, sym, ap, subst, ◌∙◌, if◌then◌else◌, arith}
+use Rattle.std.proofs.Common.{rules, ◌≡◌, Bool, true, Some, IfOk, option_map, ◌+◌, length, drop, sym, ap, subst, ◌∙◌, if◌then◌else◌, arith}
 use Rattle.std.proofs.lemmas.List.{length-drop}
 use Rattle.kb_semantics.specs.Config.{has_room}
 use Rattle.kb_frames.specs.declared.value.Outcome.{Outcome}
@@ -9,7 +9,7 @@ use Rattle.kb_ways.specs.Kept.{kept}
 use Rattle.kb_ways.specs.Plans.{plain}
 use Rattle.kb_ways.specs.Turns.{led_by, told}
 use Rattle.kb_ways.specs.Ways.{Fails, Take}
-use Rattle.kb_ways.proofs.KeptLaws.{kept_carried}
+use Rattle.kb_ways.proofs.TurnLaws.{kept_is_for}
 use Rattle.kb_stepref.specs.Effects.{put_where}
 use Rattle.kb_stepref.specs.Fields.{has_place}
 use Rattle.kb_stepref.proofs.PutSteps.{put_led}
@@ -33,4 +33,4 @@ pub put_kept-requires : goal.put_kept-requires
 put_kept-requires c =
     let is : kept c.args.field.now.kind c.args.value c.args.state.now ≡ Some (c.keep.new.state, c.in-Some.value) =
     sym c.in_ok-value.ensures.kept ∙ ap (option_map (λ (v : SymValue). (c.keep.new.state, v))) c.in-Some.is in
-    subst (λ (n : ℕ). n < c.args.turn.now.bounds.run.steps) (sym (kept_carried c.args.field.now.kind c.args.value c.args.state.now (c.keep.new.state, c.in-Some.value) is)) c.requires.step.within
+    kept_is_for c.args.turn.now c.args.field.now.kind c.args.value c.args.state.now (c.keep.new.state, c.in-Some.value) is c.requires.stands
