@@ -1,7 +1,6 @@
 -- What the functions of a take need: the ints that a state has are terms, also when an instruction is taken up.
-use Rattle.std.proofs.Common.{◌≡◌, ℕ, ◌<◌, List, Option, Some, None, slice_get, refl, sym, ap, subst, is_some}
+use Rattle.std.proofs.Common.{◌≡◌, ℕ, List, Option, Some, None, slice_get, refl, sym, ap, subst, is_some}
 use Rattle.std.specs.Option.{option_map, option_and_then}
-use Rattle.kb_heap.specs.declared.bounds.Bounds.{Bounds}
 use Rattle.kb_classes.specs.World.{World}
 use Rattle.kb_names.specs.declared.types.JType.{JType}
 use Rattle.kb_terms.specs.declared.node.Node.{Node}
@@ -11,16 +10,16 @@ use Rattle.kb_frames.specs.declared.state.Stage.{Stage}
 use Rattle.kb_frames.specs.declared.state.Stage.TheVariants.{Begins, Runs}
 use Rattle.kb_frames.specs.declared.value.SymValue.{SymValue}
 use Rattle.kb_frames.specs.declared.value.SymValue.TheVariants.{Int, Null, Obj, Literal, New, Loc}
-use Rattle.kb_frames.specs.Lent.{begun, local_in, stack_of}
-use Rattle.kb_frames.specs.Next.{argument_next, kind_of}
+use Rattle.kb_frames.specs.Lent.{local_in, stack_of}
+use Rattle.kb_frames.specs.Next.{kind_of}
 use Rattle.kb_frames.specs.State.{State}
 use Rattle.kb_frames.specs.States.{IsLocal, IsStage, IsSymValue}
 use Rattle.kb_ways.specs.declared.condition.Condition.{Condition}
 use Rattle.kb_ways.specs.Asked.{all_asked}
-use Rattle.kb_ways.specs.Needs.{CanStep, HasTerms, IsTermOf}
+use Rattle.kb_ways.specs.Needs.{HasTerms, IsTermOf}
 use Rattle.kb_ways.specs.Reached.{IsReached}
 use Rattle.kb_ways.proofs.GrowLaws.{Grows, all_asked_grows}
-use Rattle.kb_ways.proofs.SoundLaws.{Sound, begun_sound}
+use Rattle.kb_ways.proofs.SoundLaws.{Sound}
 
 -- ---- terms
 
@@ -77,32 +76,8 @@ asked_terms state cs h =
     made : (new : State) → state.stage ≡ new.stage → ((depth : ℕ) → IsTermOf new.nodes (slice_get (stack_of new.stage) depth)) → ((number : ℕ) → IsTermOf new.nodes (local_in new.stage number)) → HasTerms new
     made new same stack locals = record { stack = stack; locals = locals }
 
--- and the instruction may still be carried out
-pub asked_can_step : (bounds : Bounds) (state : State) (cs : List Condition) → CanStep bounds state → CanStep bounds (all_asked state cs)
-asked_can_step bounds state cs h =
-    let new : State = all_asked state cs in
-    let grows : Grows state new = all_asked_grows cs state in
-    record {
-      terms = asked_terms state cs h.terms;
-      within = subst (λ (s : State). s.carried < bounds.run.steps) (sym grows.rest) h.within;
-    }
-
 -- ---- arguments
-
-no_kind : (it : Option JType) → option_map kind_of it ≡ None → it ≡ None
-no_kind None e = refl
-no_kind (Some type) e = absurd cc
 
 pub kind_is : (it : Option JType) → is_some (option_map kind_of it) ≡ is_some it
 kind_is None = refl
 kind_is (Some type) = refl
-
--- the run may take up its next instruction
-pub can_step : (world : World) (bounds : Bounds) (state : State) → None ≡ option_map kind_of (argument_next world state.method state.stage)
-    → Sound world state → state.carried < bounds.run.steps → CanStep bounds (begun world state)
-can_step world bounds state none sound less =
-    let none_left : argument_next world state.method state.stage ≡ None = no_kind (argument_next world state.method state.stage) (sym none) in
-    record {
-      terms = sound_terms world (begun world state) (begun_sound world state sound none_left);
-      within = less;
-    }

@@ -26,7 +26,7 @@ use Rattle.kb_ways.specs.Kept.{kept, kept_in}
 use Rattle.kb_ways.specs.Needs.{IsFor, IsTurnAt}
 use Rattle.kb_ways.specs.Plans.{Plan, carried_out, followed, taken_up, takes_next, takes_none, takes_up}
 use Rattle.kb_ways.specs.Turns.{found_of, led_by}
-use Rattle.kb_ways.specs.Ways.{Take, ill_typed}
+use Rattle.kb_ways.specs.Ways.{ill_typed}
 use Rattle.kb_ways.proofs.BegunLaws.{place_same}
 use Rattle.kb_ways.proofs.GrowLaws.{Grows, HasMore, all_asked_grows}
 use Rattle.kb_ways.proofs.KeptLaws.{kept_is_in, kept_more}

@@ -43,11 +43,6 @@ pub record IsTurnAt (world : World) (bounds : Bounds) (state : State) (turn : Tu
   pub at : turn.at ≡ offset_now state.stage
   pub code : code_of world (method_now state.method state.stage) ≡ Some turn.code.now
 
--- an instruction may be taken up in the state
-pub record CanStep (bounds : Bounds) (state : State) : Type 0 where
-  pub terms : HasTerms state
-  pub within : state.carried < bounds.run.steps
-
 -- the side is a term of the pool, or a number
 abbrev pub IsSide : List Node → Side → Type 0
 IsSide nodes (Term t) = IsTerm nodes t
