@@ -39,9 +39,7 @@ impl Found {
     fn none(alloc: Global, all: usize) -> Result<Found, NoMemory>
         ensures { IfOk result (λ found. found ≡ record { all = all; numbers = [] }) }
     {
-        let Ok(marks) = vec![in alloc; false; all] else {
-            return Err(NoMemory);
-        };
+        let marks = vec![in alloc; false; all]?;
         let numbers = Vec::new(alloc);
         Ok(Found { numbers, marks })
     }
@@ -54,9 +52,7 @@ impl Found {
         if self.marks[number as usize] {
             return Ok(());
         }
-        let Ok(()) = self.numbers.push(number) else {
-            return Err(NoMemory);
-        };
+        self.numbers.push(number)?;
         self.marks[number as usize] = true;
         Ok(())
     }

@@ -14,9 +14,7 @@ use std::alloc::Global;
 pub(crate) fn own_marks(alloc: Global, linked: &Linked) -> Result<Vec<bool>, NoMemory>
     ensures { IfOk result (λ own. (number : ℕ) → slice_index_or own.items number false ≡ list_any (is_class_at linked.now.classes number) linked.now.universe) }
 {
-    let Ok(mut own) = vec![in alloc; false; linked.class_count() as usize] else {
-        return Err(NoMemory);
-    };
+    let mut own = vec![in alloc; false; linked.class_count() as usize]?;
     let mut rest = linked.universe();
     while let [of, others @ ..] = rest {
         mark_class(linked, of, &mut own);
@@ -44,9 +42,7 @@ fn mark_class(linked: &Linked, of: &ExactType, own: &mut Vec<bool>)
 pub(crate) fn most_dims(alloc: Global, linked: &Linked) -> Result<Vec<u32>, NoMemory>
     ensures { IfOk result (λ most. (element : ℕ) → slice_index_or most.items element 0 ≡ most_over linked.now.classes element linked.now.universe) }
 {
-    let Ok(mut most) = vec![in alloc; 0; linked.class_count() as usize + 2] else {
-        return Err(NoMemory);
-    };
+    let mut most = vec![in alloc; 0; linked.class_count() as usize + 2]?;
     let mut rest = linked.universe();
     while let [of, others @ ..] = rest {
         raise(linked, of, &mut most)?;
