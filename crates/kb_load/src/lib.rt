@@ -81,9 +81,7 @@ fn listings_of(alloc: Global, file: &ClassFile) -> Result<Vec<Option<Listing>>, 
     let mut listings = Vec::new(alloc);
     for method in file.methods.as_slice() {
         let listing = listing_of(alloc, method)?;
-        let Ok(()) = listings.push(listing) else {
-            return Err(CodeRefusal::NoMemory);
-        };
+        listings.push(listing)?;
     }
     Ok(listings)
 }
@@ -94,9 +92,7 @@ fn listing_of(alloc: Global, method: &Method) -> Result<Option<Listing>, CodeRef
     let Some(code) = &method.code else {
         return Ok(None);
     };
-    let Ok(handlers) = handlers_of(alloc, code) else {
-        return Err(CodeRefusal::NoMemory);
-    };
+    let handlers = handlers_of(alloc, code)?;
     match decode(alloc, code.bytes.as_slice(), handlers.as_slice()) {
         Ok(listing) => Ok(Some(listing)),
         Err(refusal) => Err(refusal),

@@ -67,9 +67,7 @@ fn shared_in(alloc: Global, world: &World) -> Result<Vec<IndexSet<Vec<u8>>>, NoM
     let mut number: u32 = 0;
     while let Some(class) = world.class_at(ClassId(number)) {
         let names = shared_names(alloc, class.fields())?;
-        let Ok(()) = tables.push(names) else {
-            return Err(NoMemory);
-        };
+        tables.push(names)?;
         let Some(next) = number.checked_add(1) else {
             return Err(NoMemory);
         };
@@ -113,8 +111,6 @@ fn add_name(alloc: Global, names: &mut IndexSet<Vec<u8>>, name: &Name) -> Result
     ensures names { OnOk result ((other : List ℕ) → has_name names.new other ≡ (has_name names.old other || bytes_eq other name.now)) }
 {
     let key = name.as_slice().to_vec(alloc)?;
-    let Ok(new) = names.insert(key) else {
-        return Err(NoMemory);
-    };
+    let new = names.insert(key)?;
     Ok(new)
 }

@@ -11,7 +11,7 @@ loop-method-preserved c =
     let methods = c.as_slice-method-items.result.now in
     let taken : take (c.loop-method.method-index + 1) methods ≡ take c.loop-method.method-index methods ++ c.method-item.result ∷ [] =
     (take_at_read methods c.loop-method.method-index c.method-item.result c.loop-method-test.true).1 ∙ ap (λ (m : Method). take c.loop-method.method-index methods ++ m ∷ []) (sym c.method-item.is) in
-    rw (taken, c.in-Ok.ensures.items)
+    rw (taken, c.in_ok-push.ensures.items)
     (listings_pushed (take c.loop-method.method-index methods) c.loop-method.listings.items c.method-item.result c.in_ok-listing.listing c.loop-method.invariant c.in_ok-listing.ensures)
 
 pub returns : goal.returns

@@ -12,7 +12,7 @@ loop-class-preserved c =
     let next : c.in-Some-checked_add.next ≡ c.loop-class.number + 1 = search rules in
     let names : AreNamesOfMore 1 class.fields c.in_ok-names.names = subst (λ (fs : List FieldInfo). AreNamesOfMore 1 fs c.in_ok-names.names) c.fields.ensures c.in_ok-names.ensures in
     subst (λ (n : ℕ). AreShared (take n classes) c.push.new.self.items) (sym next)
-    (shared_pushed classes c.loop-class.number class c.loop-class.tables.items c.push.new.self.items c.in_ok-names.names there c.loop-class.invariant names c.in-Ok.ensures.items)
+    (shared_pushed classes c.loop-class.number class c.loop-class.tables.items c.push.new.self.items c.in_ok-names.names there c.loop-class.invariant names c.in_ok-push.ensures.items)
 
 pub returns : goal.returns
 returns c =
