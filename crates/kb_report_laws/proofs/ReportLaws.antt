@@ -41,7 +41,7 @@ use Rattle.kb_report_laws.proofs.PathLaws.{path_b, total_b, path_begins, IsNext,
 -- ---- the blocks
 
 -- a path that is well-formed, with its ranges
-abbrev IsTold : World → Path → Type 0
+abbrev pub IsTold : World → Path → Type 0
 IsTold world path = IsSound world path × PathFits path
 
 module _ (world : World) (linked : IsLinked world) where
@@ -141,7 +141,7 @@ lines_are : (world : World) (report : Report) → report_lines world report
 unfolding report_lines head_lines
 lines_are world report = refl
 
-same_reports : (world : World) → IsLinked world → (one other : Report) → ReportFits one → ReportFits other → AllByRecursion (IsTold world) one.leaves → AllByRecursion (IsTold world) other.leaves
+pub same_reports : (world : World) → IsLinked world → (one other : Report) → ReportFits one → ReportFits other → AllByRecursion (IsTold world) one.leaves → AllByRecursion (IsTold world) other.leaves
     → report_lines world one ≡ report_lines world other → one ≡ other
 same_reports world linked one other p q sp sq e =
     let titles = heads title_line title_line _ _ (sym (lines_are world one) ∙ e ∙ lines_are world other) in
@@ -241,7 +241,7 @@ module _ (world : World) (linked : IsLinked world) where
   blocks_are_lines [] sound = tt
   blocks_are_lines (path ∷ paths) sound = AreLines-++ (path_lines world path) (flat_map (path_lines world) paths) (block_are_lines path sound.0) (blocks_are_lines paths sound.1)
 
-  report_are_lines : (report : Report) → ReportFits report → AllByRecursion (IsTold world) report.leaves → AreLines (report_lines world report)
+  pub report_are_lines : (report : Report) → ReportFits report → AllByRecursion (IsTold world) report.leaves → AreLines (report_lines world report)
   report_are_lines report p sound =
       subst AreLines (sym (lines_are world report)) (
         title_lacks,

@@ -132,8 +132,9 @@ fn write_paths(text: &mut Text, world: &NamedWorld<'_>, paths: &[Path]) -> Resul
     Ok(())
 }
 
+/// The last line of a report with these paths.
 #[tactic(auto, unfolding(crate::specs::Report::total_line))]
-fn write_total(text: &mut Text, paths: &[Path]) -> Result<(), NoMemory>
+pub fn write_total(text: &mut Text, paths: &[Path]) -> Result<(), NoMemory>
     ensures { OnOk result (text.new ≡ text.old ++ (total_line paths.now ++ 10 ∷ [])) }
 {
     write_count(text, "total ", paths.len())?;
