@@ -1,0 +1,99 @@
+//! What is known of an object of the picture before its line is read.
+
+use crate::fields::{FieldAt, Fields};
+
+/// How many slots an array may have: its elements have indices of 32 bits.
+const INDICES: u64 = 4_294_967_296;
+
+/// What the slots of an object that were named say of its exact type.
+#[derive(Clone, Copy, PartialEq, Eq)]
+pub enum Shape {
+    /// None was named.
+    Any,
+    /// It is of a class that has this field; its other fields that were named are of classes above the one that declares it.
+    Fields(FieldAt),
+    /// It is an array that has an element at this index, and at no greater one that was named.
+    Elements(u32),
+}
+
+impl Shape {
+    /// What is known with one field more; None where no class has them all.
+    pub fn with_field(self, fields: &Fields<'_>, field: FieldAt) -> Option<Shape> {
+        match self {
+            Shape::Any => Some(Shape::Fields(field)),
+            Shape::Fields(lowest) => lower(fields, lowest, field),
+            Shape::Elements(_) => None,
+        }
+    }
+
+    /// What is known with one element more; None where fields were named.
+    pub fn with_element(self, index: u32) -> Option<Shape> {
+        match self {
+            Shape::Any => Some(Shape::Elements(index)),
+            Shape::Fields(_) => None,
+            Shape::Elements(greatest) => Some(Shape::Elements(greatest.max(index))),
+        }
+    }
+
+    /// How many slots an object may have at most.
+    fn most(self, fields: &Fields<'_>) -> u64 {
+        match self {
+            Shape::Fields(lowest) => fields.most(lowest) as u64,
+            Shape::Any | Shape::Elements(_) => INDICES,
+        }
+    }
+}
+
+// The one of two fields whose class is below the other's.
+fn lower(fields: &Fields<'_>, lowest: FieldAt, field: FieldAt) -> Option<Shape> {
+    if fields.has(lowest.class, field) {
+        return Some(Shape::Fields(lowest));
+    }
+    if fields.has(field.class, lowest) {
+        return Some(Shape::Fields(field));
+    }
+    None
+}
+
+/// What is known of an object.
+#[derive(Clone, Copy, PartialEq, Eq)]
+pub(crate) struct Known {
+    pub(crate) shape: Shape,
+    /// How many of its slots are seen.
+    pub(crate) seen: u64,
+    /// How many of them are locations that have no line yet.
+    pub(crate) waiting: u64,
+    /// Whether a slot of an argument or of a smaller object leads to it.
+    pub(crate) is_found: bool,
+}
+
+impl Known {
+    /// Nothing is known.
+    pub(crate) fn new() -> Known {
+        Known {
+            shape: Shape::Any,
+            seen: 0,
+            waiting: 0,
+            is_found: false,
+        }
+    }
+
+    /// How many greater objects may still be found in its slots: where the see lines are over, in those alone that are locations.
+    pub(crate) fn ways(&self, open: Option<&Fields<'_>>) -> u64 {
+        match open {
+            Some(fields) => {
+                let unseen = self.shape.most(fields).saturating_sub(self.seen);
+                self.waiting.saturating_add(unseen)
+            }
+            None => self.waiting,
+        }
+    }
+}
+
+/// How many greater objects may still be found in the slots of an object that no line names.
+pub(crate) fn ways_of_unnamed(open: Option<&Fields<'_>>) -> u64 {
+    match open {
+        Some(_) => INDICES,
+        None => 0,
+    }
+}
