@@ -1,0 +1,4 @@
+pub mod Readable
+pub mod Refusals
+pub mod Words
+pub mod Fronts
