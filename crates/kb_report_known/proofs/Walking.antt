@@ -1,7 +1,8 @@
 -- The walk over tasks meets the terms that the definition meets, in its order, and ends.
-use Rattle.std.proofs.Common.{◌≡◌, ◌≢◌, ℕ, zero, suc, ◌+◌, ◌^◌, ◌<◌, ◌≤◌, ◌==◌, Bool, true, false, List, [], ◌∷◌, ◌++◌, length, length-append, append_assoc, append-nil, Option, Some, None, refl, sym, ap, subst, ◌∙◌, arith, reverse, if◌then◌else◌}
+use Rattle.std.proofs.Common.{◌≡◌, ◌≢◌, ℕ, zero, suc, ◌+◌, ◌^◌, ◌<◌, ◌≤◌, ◌==◌, Bool, true, false, List, [], ◌∷◌, ◌++◌, length, length-append, append_assoc, append-nil, Option, Some, None, Result, Ok, Err, OnOk, refl, sym, ap, subst, ◌∙◌, arith, reverse, if◌then◌else◌}
 use Rattle.std.specs.Prelude.{slice_get, nat_lt, fold, ◌||◌}
 use Rattle.std.specs.Option.{option_map_or}
+use Rattle.std.specs.declared.alloc.AllocError.{AllocError}
 use Rattle.std.proofs.lemmas.Bool.{lt-ltb, ltb-true, ltb-false, eqb-true, eqb-false}
 use Rattle.std.proofs.lemmas.List.{reverse-append}
 use Rattle.std.proofs.lemmas.List.Folds.{list_any-append}
@@ -13,15 +14,22 @@ use Rattle.kb_terms.specs.declared.listing.Operand.TheVariants.{Const, Var, Term
 use Rattle.kb_terms.specs.declared.listing.Term.{Term}
 use Rattle.kb_picture.specs.Numbering.{met_below, has_number, terms_of_operand, terms_of_second, terms_below}
 use Rattle.kb_picture.specs.WellFormed.{numbers_below}
-use Rattle.kb_report_known.specs.Walk.{IsBefore, IsSecondBefore, AreFormed, MeetsNext, operand_tasks, second_tasks, term_tasks, tasks_left, met_with, met_after}
+use Rattle.kb_report_known.specs.Walk.{IsBefore, IsSecondBefore, AreFormed, MeetsNext, operand_tasks, second_tasks, term_tasks, tasks_left, met_with, met_after, met_behind}
 use Rattle.kb_report_known.specs.declared.terms.Task.{Task}
 use Rattle.kb_report_known.specs.declared.terms.Task.TheVariants.{Enter, Meet}
 
 -- ---- the numbers below one
 
+not_below : (number met : ℕ) → met ≤ number → nat_lt number met ≡ false
+not_below number met h = go (nat_lt number met) refl
+  where
+    go : (b : Bool) → nat_lt number met ≡ b → nat_lt number met ≡ false
+    go true e = absurd (let below : number < met = ltb-true number met e in omega (arith, below, h))
+    go false e = e
+
 -- a number is one of those below n where it is below n
 pub below_has : (n t : ℕ) → has_number (numbers_below n) t ≡ nat_lt t n
-below_has zero t = refl
+below_has zero t = sym (not_below t 0 (omega arith))
 below_has (suc n) t = list_any-append (λ x. x == t) (numbers_below n) (n ∷ []) ∙ ap (λ (b : Bool). b || ((n == t) || false)) (below_has n t) ∙ go (nat_lt t n) refl (n == t) refl
   where
     last : (b : Bool) → nat_lt t (suc n) ≡ b → n ≤ t → (n ≡ t → ⊥) → false ≡ nat_lt t (suc n)
@@ -32,6 +40,11 @@ below_has (suc n) t = list_any-append (λ x. x == t) (numbers_below n) (n ∷ []
     go true p b q = rw p (sym (lt-ltb t (suc n) (let below : t < n = ltb-true t n p in omega (arith, below))))
     go false p true q = rw (p, q) (sym (lt-ltb t (suc n) (let same : n ≡ t = eqb-true n t q in omega (arith, same))))
     go false p false q = rw (p, q) (last (nat_lt t (suc n)) refl (ltb-false t n p) (eqb-false n t q))
+
+beyond : (xs : List ℕ) (i : ℕ) → length xs ≤ i → (v : ℕ) → slice_get xs i ≡ Some v → ⊥
+beyond [] i h v e = cc
+beyond (x ∷ xs) zero h v e = omega (arith, h)
+beyond (x ∷ xs) (suc i) h v e = beyond xs i (omega (arith, h)) v e
 
 -- the number at a place is that place
 length_below : (n : ℕ) → length (numbers_below n) ≡ n
@@ -49,26 +62,21 @@ get_behind (x ∷ xs) ys = get_behind xs ys
 
 below_at : (n i v : ℕ) → slice_get (numbers_below n) i ≡ Some v → v ≡ i
 below_at zero i v e = absurd cc
-below_at (suc n) i v e = go (nat_lt i n) refl
+below_at (suc n) i v e = go (λ k. below_at n i v k) (nat_lt i n) refl
   where
-    go : (b : Bool) → nat_lt i n ≡ b → v ≡ i
-    go true h =
+    go : (slice_get (numbers_below n) i ≡ Some v → v ≡ i) → (b : Bool) → nat_lt i n ≡ b → v ≡ i
+    go again true h =
         let inside : i < n = ltb-true i n h in
-        below_at n i v (sym (get_front (numbers_below n) (n ∷ []) i (omega (arith, inside, length_below n))) ∙ e)
-    go false h = last (nat_lt n i) refl
+        again (sym (get_front (numbers_below n) (n ∷ []) i (omega (arith, inside, length_below n))) ∙ e)
+    go again false h = last (nat_lt n i) refl
       where
         last : (b : Bool) → nat_lt n i ≡ b → v ≡ i
         last true k = absurd (beyond (numbers_below n ++ n ∷ []) i (let more : n < i = ltb-true n i k in omega (arith, more, length_below n, length-append (numbers_below n) (n ∷ []))) v e)
         last false k =
-            let same : i ≡ length (numbers_below n) = let low = ltb-false i n h in let high = ltb-false n i k in omega (arith, low, high, length_below n) in
+            let same : i ≡ length (numbers_below n) = (let low = ltb-false i n h in let high = ltb-false n i k in omega (arith, low, high, length_below n)) in
             let here : Some n ≡ Some v = sym (get_behind (numbers_below n) (n ∷ [])) ∙ ap (slice_get (numbers_below n ++ n ∷ [])) (sym same) ∙ e in
             let number : n ≡ v = cc in
             omega (arith, number, same, length_below n)
-
-    beyond : (xs : List ℕ) (i : ℕ) → length xs ≤ i → (v : ℕ) → slice_get xs i ≡ Some v → ⊥
-    beyond [] i h v e = cc
-    beyond (x ∷ xs) zero h v e = omega (arith, h)
-    beyond (x ∷ xs) (suc i) h v e = beyond xs i (omega (arith, h)) v e
 
 not_next : (met t : ℕ) (more : List ℕ) (after : ℕ) → t ≢ met → numbers_below met ++ (t ∷ more) ≡ numbers_below after → ⊥
 not_next met t more after other e =
@@ -335,10 +343,29 @@ unfolding weight
 smaller terms met tasks rest new k e left =
     omega (arith, ap weight left, ap weight (popped tasks rest k e), weight-append (tasks_left terms met k) (reverse rest), left_weight terms met k)
 
+-- ---- the tasks of a term
+
+pub entered : (number met : ℕ) (terms : List Term) (term : Term) (old pushed new : List Task) (r : Result (Unit {0}) AllocError) → met ≤ number → slice_get terms number ≡ Some term → pushed ≡ old ++ Meet number ∷ []
+    → OnOk r (reverse new ≡ operand_tasks number term.left ++ (second_tasks number term.right ++ reverse pushed)) → OnOk r (reverse new ≡ tasks_left terms met (Enter number) ++ reverse old)
+entered number met terms term old pushed new (Err e) h there more is = tt
+entered number met terms term old pushed new (Ok v) h there more is =
+    is ∙ ap (λ (ks : List Task). operand_tasks number term.left ++ (second_tasks number term.right ++ ks)) (ap reverse more ∙ reverse-append old (Meet number ∷ []))
+    ∙ ap (λ (ks : List Task). operand_tasks number term.left ++ ks) (sym (append_assoc (second_tasks number term.right) (Meet number ∷ []) (reverse old)))
+    ∙ sym (append_assoc (operand_tasks number term.left) (second_tasks number term.right ++ Meet number ∷ []) (reverse old))
+    ∙ ap (λ (t : Option Term). term_tasks number t ++ reverse old) (sym there)
+    ∙ ap (λ (b : Bool). (if b then [] else term_tasks number (slice_get terms number)) ++ reverse old) (sym (not_below number met h))
+
+pub entered_none : (number met : ℕ) (terms : List Term) (old pushed : List Task) → met ≤ number → slice_get terms number ≡ None → pushed ≡ old ++ Meet number ∷ []
+    → reverse pushed ≡ tasks_left terms met (Enter number) ++ reverse old
+entered_none number met terms old pushed h none more =
+    ap reverse more ∙ reverse-append old (Meet number ∷ [])
+    ∙ ap (λ (t : Option Term). term_tasks number t ++ reverse old) (sym none)
+    ∙ ap (λ (b : Bool). (if b then [] else term_tasks number (slice_get terms number)) ++ reverse old) (sym (not_below number met h))
+
 -- what the tasks come to is what the walk from the root comes to
 pub record IsOnWay (terms : List Term) (before root met : ℕ) (tasks : List Task) (formed : AreFormed terms) : Type 0 where
   pub are : AreTasks terms (reverse tasks)
-  pub is : finish terms formed (reverse tasks) (numbers_below met) ≡ met_below (length terms) terms (numbers_below before) root
+  pub is : finish terms formed (reverse tasks) (numbers_below met) ≡ met_behind terms before (root ∷ [])
 
 abbrev pub OnWay : List Term → ℕ → ℕ → ℕ → List Task → Type 0
 OnWay terms before root met tasks = (formed : AreFormed terms) → root < length terms → IsOnWay terms before root met tasks formed
@@ -379,7 +406,7 @@ turn terms before root met next tasks rest new k e left goes way formed inside =
     step (Meet t) goes there = meet t (t == met) refl goes
 
 pub stops : (terms : List Term) (before root met : ℕ) (tasks rest : List Task) (k : Task) → tasks ≡ rest ++ k ∷ [] → None ≡ met_after met k → OnWay terms before root met tasks
-    → AreFormed terms → root < length terms → (after : ℕ) → met_below (length terms) terms (numbers_below before) root ≡ numbers_below after → ⊥
+    → AreFormed terms → root < length terms → (after : ℕ) → met_behind terms before (root ∷ []) ≡ numbers_below after → ⊥
 stops terms before root met tasks rest (Enter t) e none way formed inside after all = absurd cc
 stops terms before root met tasks rest (Meet t) e none way formed inside after all =
     go (t == met) refl none
@@ -390,7 +417,7 @@ stops terms before root met tasks rest (Meet t) e none way formed inside after a
         (ap (λ (xs : List Task). finish terms formed xs (numbers_below met)) (sym (popped tasks rest (Meet t) e)) ∙ (way formed inside).is ∙ all)
 
 pub ends : (terms : List Term) (before root met : ℕ) (tasks rest : List Task) → tasks ≡ rest ++ [] → length rest ≡ 0 → OnWay terms before root met tasks
-    → AreFormed terms → root < length terms → met_below (length terms) terms (numbers_below before) root ≡ numbers_below met
+    → AreFormed terms → root < length terms → met_behind terms before (root ∷ []) ≡ numbers_below met
 unfolding finish
 ends terms before root met tasks [] e none way formed inside = sym (way formed inside).is ∙ ap (λ (ks : List Task). finish terms formed (reverse ks) (numbers_below met)) e
 ends terms before root met tasks (k ∷ ks) e none way formed inside = absurd (omega (arith, none))

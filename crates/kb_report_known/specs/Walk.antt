@@ -1,10 +1,11 @@
 -- The walk by which the terms of a path are numbered, as a list of tasks, the next one first. While terms are met in the order in
 -- which they are listed, those that are met are the first ones.
-use Rattle.std.specs.Prelude.{◌≡◌, ◌==◌, ◌&&◌, ℕ, suc, ◌<◌, Bool, true, false, not, nat_lt, List, [], ◌∷◌, ◌++◌, length, Option, Some, None, slice_get, if◌then◌else◌, MatchOption}
+use Rattle.std.specs.Prelude.{◌≡◌, ◌==◌, ◌&&◌, ℕ, suc, ◌<◌, Bool, true, false, not, nat_lt, List, [], ◌∷◌, ◌++◌, length, fold, Option, Some, None, slice_get, if◌then◌else◌, MatchOption}
 use Rattle.kb_terms.specs.Op.{is_binary}
 use Rattle.kb_terms.specs.declared.listing.Operand.{Operand}
 use Rattle.kb_terms.specs.declared.listing.Operand.TheVariants.{Const, Var, Term as TermOperand}
 use Rattle.kb_terms.specs.declared.listing.Term.{Term}
+use Rattle.kb_texts.specs.Texts.{with_text}
 use Rattle.kb_picture.specs.Numbering.{met_below}
 use Rattle.kb_picture.specs.WellFormed.{numbers_below}
 use Rattle.kb_report_known.specs.declared.terms.Task.{Task}
@@ -42,11 +43,36 @@ IsSecondBefore number (Some operand) = IsBefore number operand
 abbrev pub AreFormed : List Term → Type 0
 AreFormed terms = (number : ℕ) (term : Term) → slice_get terms number ≡ Some term → IsBefore number term.left × IsSecondBefore number term.right
 
+-- the terms that are met behind a walk from those ones, the first so many being met before it
+abbrev pub met_behind : List Term → ℕ → List ℕ → List ℕ
+met_behind terms before roots = fold (met_below (length terms) terms) (numbers_below before) roots
+
 -- where the first so many terms are met, a walk from that one comes to the first `after` ones, or to no first ones at all
 abbrev pub MeetsNext : List Term → ℕ → ℕ → Option ℕ → Type 0
 MeetsNext terms before root read = MatchOption read
-    ((after : ℕ) → met_below (length terms) terms (numbers_below before) root ≡ numbers_below after → ⊥)
-    (λ after. met_below (length terms) terms (numbers_below before) root ≡ numbers_below after)
+    ((after : ℕ) → met_behind terms before (root ∷ []) ≡ numbers_below after → ⊥)
+    (λ after. met_behind terms before (root ∷ []) ≡ numbers_below after)
+
+-- ---- what the walk leaves
+
+-- terms by their texts, each once, and how many of them a walk has met
+pub record Listed : Type 0 where
+  pub texts : List (List ℕ)
+  pub met : ℕ
+
+abbrev pub no_terms : Listed
+no_terms = record { texts = []; met = 0 }
+
+-- with one more, unless its text is there
+abbrev pub with_term : Listed → List ℕ → Listed
+with_term listed text = record { texts = with_text listed.texts text; met = listed.met }
+
+-- behind the walk from those terms, or no first terms are what it comes to
+abbrev pub Meets : List Term → List ℕ → Listed → Listed → Bool → Type 0
+Meets terms roots before after true = (after.texts ≡ before.texts) × (met_behind terms before.met roots ≡ numbers_below after.met)
+Meets terms roots before after false = (met : ℕ) → met_behind terms before.met roots ≡ numbers_below met → ⊥
+
+-- ---- tasks
 
 -- the tasks of an operand of a term: to come to it, if it is a term before that one
 abbrev pub operand_tasks : ℕ → Operand → List Task

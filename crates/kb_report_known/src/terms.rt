@@ -1,44 +1,68 @@
 //! The terms of a path, and those that a walk from what it states has met.
-ghost use Rattle.std.specs.Prelude.{◌≡◌, ◌<◌, ◌++◌, ◌↔◌, IsTrue, length, reverse, slice_get, IfOk, OnOk};
+ghost use Rattle.std.specs.Prelude.{◌≡◌, ◌<◌, ◌++◌, ◌∷◌, ◌==◌, ◌↔◌, [], IsTrue, not, length, reverse, slice_get, IfOk, OnOk};
+ghost use Rattle.std.specs.List.{list_any};
+ghost use Rattle.std.specs.Str.{bytes_eq};
 ghost use Rattle.kb_blast.specs.Meaning.{IsComparison};
-ghost use Rattle.kb_report_known.specs.Walk.{may_be_next, has_operand, AreFormed, MeetsNext, met_with, met_after, operand_tasks, second_tasks, tasks_left};
+ghost use Rattle.kb_picture.specs.Numbering.{terms_of_operand};
+ghost use Rattle.kb_report_known.specs.Walk.{may_be_next, has_operand, AreFormed, IsBefore, MeetsNext, Meets, no_terms, with_term, met_with, met_after, operand_tasks, second_tasks, tasks_left};
 ghost use Rattle.kb_report_known.specs.declared.terms.Task.TheVariants.{Enter};
 
 use crate::NoMemory;
-use indexmap::IndexSet;
 use kb_terms::{Op, Operand, Term};
+use kb_texts::Texts;
 use std::alloc::Global;
+use std::marker::Model;
 
 /// The texts of the terms that are listed, so that none stands twice, and how many of them a walk has met: the first so many.
+/// Contracts see both.
 #[derive(Drop)]
 pub struct Terms {
-    texts: IndexSet<Vec<u8>>,
+    texts: Texts,
     met: usize,
+}
+
+impl Model for Terms {
+    ghost use Rattle.kb_report_known.specs.Walk.{Listed};
+
+    ghost Value = { Listed };
+
+    ghost view = { λ t. record { texts = t.texts; met = t.met } };
 }
 
 impl Terms {
     /// No terms.
-    pub fn new(alloc: Global) -> Terms {
+    pub fn new(alloc: Global) -> Terms
+        ensures { result ≡ no_terms }
+    {
         Terms {
-            texts: IndexSet::new(alloc),
+            texts: Texts::new(alloc),
             met: 0,
         }
     }
 
     /// Adds the text of a term; whether it was not there.
-    pub fn add(&mut self, alloc: Global, text: &[u8]) -> Result<bool, NoMemory> {
-        let key = text.to_vec(alloc)?;
-        let is_new = self.texts.insert(key)?;
-        Ok(is_new)
+    pub fn add(&mut self, alloc: Global, text: &[u8]) -> Result<bool, NoMemory>
+        ensures new { IfOk result (λ new. new ≡ not (list_any (bytes_eq text.now) self.old.texts)) }
+        ensures listed { OnOk result (self.new ≡ with_term self.old text.now) }
+    {
+        if self.texts.has(text) {
+            return Ok(false);
+        }
+        self.texts.place(alloc, text)?;
+        Ok(true)
     }
 
     /// Whether a walk has met all of these terms.
-    pub fn are_met(&self, terms: &[Term]) -> bool {
+    pub fn are_met(&self, terms: &[Term]) -> bool
+        ensures { result ≡ (self.now.met == length terms.now) }
+    {
         self.met == terms.len()
     }
 
     /// Goes on with the walk from that term; whether the terms that it meets and none met before are the next ones.
-    pub fn meet(&mut self, alloc: Global, terms: &[Term], root: u32) -> Result<bool, NoMemory> {
+    pub fn meet(&mut self, alloc: Global, terms: &[Term], root: u32) -> Result<bool, NoMemory>
+        ensures { AreFormed terms.now → root < length terms.now → IfOk result (Meets terms.now (root ∷ []) self.old self.new) }
+    {
         match met_from(alloc, terms, self.met, root)? {
             Some(met) => {
                 self.met = met;
@@ -54,7 +78,9 @@ impl Terms {
         alloc: Global,
         terms: &[Term],
         operand: Operand,
-    ) -> Result<bool, NoMemory> {
+    ) -> Result<bool, NoMemory>
+        ensures { AreFormed terms.now → IsBefore (length terms.now) operand → IfOk result (Meets terms.now (terms_of_operand operand) self.old self.new) }
+    {
         match operand {
             Operand::Const(_) | Operand::Var(_) => Ok(true),
             Operand::Term(root) => self.meet(alloc, terms, root),
