@@ -130,7 +130,7 @@ fn see_location(block: &mut Block, slot: Origin, number: u32) -> Result<bool, No
     block
         .locations
         .push(block.path.picture.seen.as_slice().len())?;
-    block.objects.wait(holder_of(slot));
+    block.objects.wait(holder_of(slot))?;
     Ok(true)
 }
 
@@ -146,7 +146,7 @@ pub(crate) fn take_loc(block: &mut Block, word: &[u8]) -> Result<bool, NoMemory>
         return Ok(false);
     };
     block.stage = Stage::Locs;
-    block.objects.settle(holder_of(slot));
+    block.objects.settle(holder_of(slot))?;
     if let Standing::Obj(number) = standing {
         block.objects.lead(holder_of(slot), number)?;
     }

@@ -1,1 +1,6 @@
-pub mod Walking
+mod ChainLaws
+mod CountLaws
+mod FieldLaws
+mod KnownLaws
+mod TableLaws
+mod Walking

@@ -1,4 +1,9 @@
 //! The fields that have slots, by their texts.
+ghost use Rattle.std.specs.Prelude.{◌≡◌, ◌<◌, length, IfOk, IfSome, IfNone, OnOk};
+ghost use Rattle.kb_link.specs.Links.{IsLinked};
+ghost use Rattle.kb_semantics.specs.Values.{slots_of_class};
+ghost use Rattle.kb_report_known.specs.Fields.{IsTextOf, is_there_below, is_below, has_field_at};
+ghost use Rattle.kb_report_known.specs.Tables.{find_in, most_in, AddsFields, AddsField, AddsOwn, AreFields, AreMost, Notes, NotesOne, most_below};
 
 use crate::NoMemory;
 use indexmap::IndexMap;
@@ -9,6 +14,7 @@ use kb_report_text::{NamedWorld, write_field};
 use kb_semantics::{FieldSlot, World};
 use std::alloc::Global;
 use std::collections::BTreeMap;
+use std::marker::Model;
 
 /// A field with a slot: the class that declares it, and the slot's number. In an object of each class below it has that number.
 #[derive(Clone, Copy, PartialEq, Eq)]
@@ -17,7 +23,7 @@ pub struct FieldAt {
     pub slot: u32,
 }
 
-/// The fields of a world's classes that have slots, by what stands behind the dot of a slot in a report.
+/// The fields of a world's classes that have slots, by what stands behind the dot of a slot in a report. Contracts see the world.
 #[derive(Drop)]
 pub struct Fields<'a> {
     world: &'a World,
@@ -26,22 +32,25 @@ pub struct Fields<'a> {
     most: BTreeMap<u32, usize>,
 }
 
+impl<'a> Model for Fields<'a> {
+    ghost use Rattle.std.specs.Prelude.{length};
+    ghost use Rattle.kb_classes.specs.World.{World as PlainWorld};
+    ghost use Rattle.kb_report_known.specs.Tables.{find_in, most_in, AreFields, AreMost};
+
+    ghost Value = { PlainWorld };
+
+    ghost view = { λ f. f.world.now };
+
+    ghost invariant = { λ f. AreFields f.world.now (length f.world.now.classes) (find_in f.numbers) × AreMost f.world.now (length f.world.now.classes) (most_in f.most) };
+}
+
 impl<'a> Fields<'a> {
     /// The fields of that world, in a time that grows with the slots of its classes.
-    pub fn of(alloc: Global, world: &'a World) -> Result<Fields<'a>, NoMemory> {
-        let named = NamedWorld::of(alloc, world)?;
-        let mut numbers = IndexMap::new(alloc);
-        let mut most = BTreeMap::new(alloc);
-        let mut number: u32 = 0;
-        while let Some(class) = world.class_at(ClassId(number)) {
-            let slots = world.slots_named(class.name());
-            note_counts(slots, &mut most)?;
-            add_fields(alloc, &named, ClassId(number), slots, &mut numbers)?;
-            let Some(next) = number.checked_add(1) else {
-                return Err(NoMemory);
-            };
-            number = next;
-        }
+    pub fn of(alloc: Global, world: &'a World) -> Result<Fields<'a>, NoMemory>
+        ensures { IfOk result (λ fields. fields ≡ world.now) }
+    {
+        let numbers = numbers_of(alloc, world)?;
+        let most = most_of(alloc, world)?;
         Ok(Fields {
             world,
             numbers,
@@ -50,12 +59,27 @@ impl<'a> Fields<'a> {
     }
 
     /// The world of the fields.
-    pub fn world(&self) -> &World {
+    pub fn world(&self) -> &World
+        ensures { result.now ≡ self.now }
+    {
         self.world
     }
 
+    /// Does nothing. A world that has classes is linked.
+    pub fn tell_linked(&self)
+        ensures { 0 < length self.now.classes → IsLinked self.now }
+    {
+        if !self.world.has_class(ClassId(0)) {
+            return;
+        }
+        let _ = self.world.name_of(ClassId(0));
+    }
+
     /// The field with that text.
-    pub fn named(&self, text: &[u8]) -> Option<FieldAt> {
+    pub fn named(&self, text: &[u8]) -> Option<FieldAt>
+        ensures some { IfSome result (IsTextOf self.now text.now) }
+        ensures none { IfNone result ((field : FieldAt) → IsTextOf self.now text.now field → ⊥) }
+    {
         match self.numbers.get(text) {
             Some(field) => Some(*field),
             None => None,
@@ -63,33 +87,40 @@ impl<'a> Fields<'a> {
     }
 
     /// Whether objects of the class have the field.
-    pub fn has(&self, class: ClassId, field: FieldAt) -> bool {
-        match self.world.class_at(class) {
-            Some(class) => self.is_of(class.name(), field),
-            None => false,
+    pub fn has(&self, class: ClassId, field: FieldAt) -> bool
+        ensures { result ≡ is_there_below self.now class.0 field.class.0 }
+    {
+        if !self.world.has_class(class) {
+            return false;
         }
+        self.is_of(self.world.name_of(class), field)
     }
 
     /// Whether objects of the class of that name have the field.
-    pub fn is_of(&self, name: &Name, field: FieldAt) -> bool {
-        declares(self.world.slots_named(name), field)
+    pub fn is_of(&self, name: &Name, field: FieldAt) -> bool
+        ensures { result ≡ is_below self.now name.now field.class.0 }
+    {
+        self.world.is_in_chain(name, field.class)
     }
 
     /// How many slots an object of the class has; none where it is not there.
-    pub fn count(&self, name: &Name) -> usize {
+    pub fn count(&self, name: &Name) -> usize
+        ensures { result ≡ length (slots_of_class self.now name.now) }
+    {
         self.world.slots_named(name).len()
     }
 
     /// How many slots an object has at most that has the field.
-    pub fn most(&self, field: FieldAt) -> usize {
-        match self.most.get(&field.class.0) {
-            Some(most) => *most,
-            None => 0,
-        }
+    pub fn most(&self, field: FieldAt) -> usize
+        ensures { result ≡ most_below self.now (length self.now.classes) field.class.0 }
+    {
+        most_at(&self.most, field.class.0)
     }
 
     /// Whether objects of the exact type have the field.
-    pub fn has_kind(&self, kind: &ExactType, field: FieldAt) -> bool {
+    pub fn has_kind(&self, kind: &ExactType, field: FieldAt) -> bool
+        ensures { result ≡ has_field_at self.now kind.now field }
+    {
         match kind {
             ExactType::Class(name) => self.is_of(name, field),
             ExactType::Array(_) => false,
@@ -97,32 +128,24 @@ impl<'a> Fields<'a> {
     }
 }
 
-// Whether the field is the one of its slot.
-fn declares(slots: &[FieldSlot], field: FieldAt) -> bool {
-    match slots.get(field.slot as usize) {
-        Some(slot) => slot.class == field.class,
-        None => false,
-    }
-}
+// ---- the table of the fields
 
-// Notes how many slots an object has, for each class that declares one of them.
-fn note_counts(slots: &[FieldSlot], most: &mut BTreeMap<u32, usize>) -> Result<(), NoMemory> {
-    for slot in slots {
-        note_count(slot.class, slots.len(), most)?;
+// The fields of each class that have slots. Classes without numbers of 32 bits count as out of memory.
+fn numbers_of(alloc: Global, world: &World) -> Result<IndexMap<Vec<u8>, FieldAt>, NoMemory>
+    ensures { IfOk result (λ numbers. AreFields world.now (length world.now.classes) (find_in numbers)) }
+{
+    let named = NamedWorld::of(alloc, world)?;
+    let mut numbers = IndexMap::new(alloc);
+    let mut number: u32 = 0;
+    while world.has_class(ClassId(number)) {
+        let class = ClassId(number);
+        add_fields(alloc, &named, class, world.fields_of(class), &mut numbers)?;
+        let Some(next) = number.checked_add(1) else {
+            return Err(NoMemory);
+        };
+        number = next;
     }
-    Ok(())
-}
-
-fn note_count(
-    class: ClassId,
-    count: usize,
-    most: &mut BTreeMap<u32, usize>,
-) -> Result<(), NoMemory> {
-    let greatest = most.entry(class.0)?.or_insert(0);
-    if *greatest < count {
-        *greatest = count;
-    }
-    Ok(())
+    Ok(numbers)
 }
 
 // Adds those of the slots that the class declares.
@@ -132,13 +155,31 @@ fn add_fields(
     class: ClassId,
     slots: &[FieldSlot],
     numbers: &mut IndexMap<Vec<u8>, FieldAt>,
-) -> Result<(), NoMemory> {
-    for slot in slots {
-        if slot.class == class {
-            add_field(alloc, named, slot, numbers)?;
-        }
+) -> Result<(), NoMemory>
+    ensures { OnOk result (AddsFields named.now class.0 slots.now (find_in numbers.old) (find_in numbers.new)) }
+{
+    let mut rest = slots;
+    while let [slot, others @ ..] = rest {
+        add_own(alloc, named, class, slot, numbers)?;
+        rest = others;
     }
     Ok(())
+}
+
+// Adds the slot if the class declares it.
+fn add_own(
+    alloc: Global,
+    named: &NamedWorld<'_>,
+    class: ClassId,
+    slot: &FieldSlot,
+    numbers: &mut IndexMap<Vec<u8>, FieldAt>,
+) -> Result<(), NoMemory>
+    ensures { OnOk result (AddsOwn named.now class.0 slot.now (find_in numbers.old) (find_in numbers.new)) }
+{
+    if slot.class.0 != class.0 {
+        return Ok(());
+    }
+    add_field(alloc, named, slot, numbers)
 }
 
 fn add_field(
@@ -146,7 +187,9 @@ fn add_field(
     named: &NamedWorld<'_>,
     slot: &FieldSlot,
     numbers: &mut IndexMap<Vec<u8>, FieldAt>,
-) -> Result<(), NoMemory> {
+) -> Result<(), NoMemory>
+    ensures { OnOk result (AddsField named.now slot.now (find_in numbers.old) (find_in numbers.new)) }
+{
     let mut text = Text::new(alloc);
     write_field(&mut text, named, slot)?;
     let field = FieldAt {
@@ -155,4 +198,54 @@ fn add_field(
     };
     numbers.insert(text.into_bytes(), field)?;
     Ok(())
+}
+
+// ---- the table of the most slots
+
+// Of each class the most slots that an object has which has a field of it.
+fn most_of(alloc: Global, world: &World) -> Result<BTreeMap<u32, usize>, NoMemory>
+    ensures { IfOk result (λ most. AreMost world.now (length world.now.classes) (most_in most)) }
+{
+    let mut most = BTreeMap::new(alloc);
+    let mut number: u32 = 0;
+    while world.has_class(ClassId(number)) {
+        note_counts(world.fields_of(ClassId(number)), &mut most)?;
+        let Some(next) = number.checked_add(1) else {
+            return Err(NoMemory);
+        };
+        number = next;
+    }
+    Ok(most)
+}
+
+// Notes how many slots an object has, for each class that declares one of them.
+fn note_counts(slots: &[FieldSlot], most: &mut BTreeMap<u32, usize>) -> Result<(), NoMemory>
+    ensures { OnOk result (Notes slots.now (length slots.now) (most_in most.old) (most_in most.new)) }
+{
+    let count = slots.len();
+    let mut rest = slots;
+    while let [slot, others @ ..] = rest {
+        note_count(slot.class.0, count, most)?;
+        rest = others;
+    }
+    Ok(())
+}
+
+fn note_count(class: u32, count: usize, most: &mut BTreeMap<u32, usize>) -> Result<(), NoMemory>
+    ensures { OnOk result (NotesOne class count (most_in most.old) (most_in most.new)) }
+{
+    if most_at(most, class) >= count {
+        return Ok(());
+    }
+    most.insert(class, count)?;
+    Ok(())
+}
+
+fn most_at(most: &BTreeMap<u32, usize>, class: u32) -> usize
+    ensures { result ≡ most_in most.now class }
+{
+    match most.get(&class) {
+        Some(count) => *count,
+        None => 0,
+    }
 }

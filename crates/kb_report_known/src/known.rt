@@ -1,9 +1,18 @@
 //! What is known of an object of the picture before its line is read.
+ghost use Rattle.std.specs.Prelude.{◌≡◌, ◌^◌, ◌-◌, min, true};
+ghost use Rattle.std.specs.Option.{option_copied};
+ghost use Rattle.kb_classes.specs.World.{World as PlainWorld};
+ghost use Rattle.kb_names.specs.declared.types.ExactType.{ExactType};
+ghost use Rattle.kb_picture.specs.WellFormed.{HasElement};
+ghost use Rattle.kb_picture.specs.declared.picture.Length.{Length};
+ghost use Rattle.kb_report_known.specs.Fields.{has_field_at};
+ghost use Rattle.kb_report_known.specs.declared.known.Shape.TheVariants.{Fields as ShapeFields};
+ghost use Rattle.kb_report_known.specs.Known.{IsShapeWith, most_slots, nothing_known, ways_of};
 
 use crate::fields::{FieldAt, Fields};
 
 /// How many slots an array may have: its elements have indices of 32 bits.
-const INDICES: u64 = 4_294_967_296;
+pub(crate) const INDICES: u64 = 4_294_967_296;
 
 /// What the slots of an object that were named say of its exact type.
 #[derive(Clone, Copy, PartialEq, Eq)]
@@ -18,7 +27,9 @@ pub enum Shape {
 
 impl Shape {
     /// What is known with one field more; None where no class has them all.
-    pub fn with_field(self, fields: &Fields<'_>, field: FieldAt) -> Option<Shape> {
+    pub fn with_field(self, fields: &Fields<'_>, field: FieldAt) -> Option<Shape>
+        ensures { IsShapeWith fields.now self (λ (kind : ExactType) (length : Length). has_field_at fields.now kind field ≡ true) result }
+    {
         match self {
             Shape::Any => Some(Shape::Fields(field)),
             Shape::Fields(lowest) => lower(fields, lowest, field),
@@ -27,7 +38,9 @@ impl Shape {
     }
 
     /// What is known with one element more; None where fields were named.
-    pub fn with_element(self, index: u32) -> Option<Shape> {
+    pub fn with_element(self, index: u32) -> Option<Shape>
+        ensures { (world : PlainWorld) → IsShapeWith world self (λ (kind : ExactType) (length : Length). HasElement length index) result }
+    {
         match self {
             Shape::Any => Some(Shape::Elements(index)),
             Shape::Fields(_) => None,
@@ -36,7 +49,9 @@ impl Shape {
     }
 
     /// How many slots an object may have at most.
-    fn most(self, fields: &Fields<'_>) -> u64 {
+    fn most(self, fields: &Fields<'_>) -> u64
+        ensures { result ≡ most_slots fields.now self }
+    {
         match self {
             Shape::Fields(lowest) => fields.most(lowest) as u64,
             Shape::Any | Shape::Elements(_) => INDICES,
@@ -45,7 +60,9 @@ impl Shape {
 }
 
 // The one of two fields whose class is below the other's.
-fn lower(fields: &Fields<'_>, lowest: FieldAt, field: FieldAt) -> Option<Shape> {
+fn lower(fields: &Fields<'_>, lowest: FieldAt, field: FieldAt) -> Option<Shape>
+    ensures { IsShapeWith fields.now (ShapeFields lowest) (λ (kind : ExactType) (length : Length). has_field_at fields.now kind field ≡ true) result }
+{
     if fields.has(lowest.class, field) {
         return Some(Shape::Fields(lowest));
     }
@@ -69,7 +86,9 @@ pub(crate) struct Known {
 
 impl Known {
     /// Nothing is known.
-    pub(crate) fn new() -> Known {
+    pub(crate) fn new() -> Known
+        ensures { result ≡ nothing_known }
+    {
         Known {
             shape: Shape::Any,
             seen: 0,
@@ -78,22 +97,17 @@ impl Known {
         }
     }
 
-    /// How many greater objects may still be found in its slots: where the see lines are over, in those alone that are locations.
-    pub(crate) fn ways(&self, open: Option<&Fields<'_>>) -> u64 {
-        match open {
+    /// How many greater objects may still be found in its slots: where the see lines are over, in those alone that are locations,
+    /// and no fields are given.
+    pub(crate) fn ways(self, fields: Option<&Fields<'_>>) -> u64
+        ensures { result ≡ min (ways_of (option_copied fields) self) (2 ^ 64 - 1) }
+    {
+        match fields {
             Some(fields) => {
                 let unseen = self.shape.most(fields).saturating_sub(self.seen);
                 self.waiting.saturating_add(unseen)
             }
             None => self.waiting,
         }
-    }
-}
-
-/// How many greater objects may still be found in the slots of an object that no line names.
-pub(crate) fn ways_of_unnamed(open: Option<&Fields<'_>>) -> u64 {
-    match open {
-        Some(_) => INDICES,
-        None => 0,
     }
 }

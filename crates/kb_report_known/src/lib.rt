@@ -2,6 +2,7 @@
 //! may have, and what may still lead to one that nothing leads to; and which terms conditions and values have met.
 #![tactic(auto)]
 
+mod counting;
 mod fields;
 mod known;
 mod objects;
