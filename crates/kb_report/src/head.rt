@@ -1,8 +1,9 @@
 //! The three lines of a report's head.
 ghost use Rattle.std.specs.Prelude.{◌↔◌, ◌≡◌, IsTrue, IfOk};
 ghost use Rattle.kb_grammar.specs.Lines.{IsRead};
-ghost use Rattle.kb_report.specs.Words.{SpellsTargetLine, SpellsInit, SpellsSettings};
-ghost use Rattle.kb_report_text.specs.Report.{title_line};
+ghost use Rattle.kb_report.specs.Words.{IsFrontRead, RunFits, SpellsTargetLine, SpellsInit, SpellsSettings};
+ghost use Rattle.kb_report_text.specs.Ranges.{BoundsFit};
+ghost use Rattle.kb_report_text.specs.Report.{bounds_text, run_bounds_text, title_line};
 
 use crate::NoMemory;
 use kb_grammar::{behind, first_part, is_line, last_number, number_before};
@@ -45,7 +46,9 @@ pub(crate) fn read_target_line(alloc: Global, line: &[u8]) -> Result<Option<Held
 }
 
 /// The settings that the line spells.
-pub(crate) fn read_settings(line: &[u8]) -> Option<Settings> {
+pub(crate) fn read_settings(line: &[u8]) -> Option<Settings>
+    ensures { IsRead SpellsSettings line.now result }
+{
     let (name, rest) = first_part(behind(line, b"init ")?, b' ');
     let init = init_named(name)?;
     let (bounds, rest) = read_bounds(rest)?;
@@ -73,14 +76,18 @@ fn init_named(name: &[u8]) -> Option<Init>
 }
 
 // The bounds, and what stands behind them.
-fn read_bounds(text: &[u8]) -> Option<(Bounds, &[u8])> {
+fn read_bounds(text: &[u8]) -> Option<(Bounds, &[u8])>
+    ensures { IsFrontRead BoundsFit bounds_text text.now result }
+{
     let (k, rest) = number_before(text, b" k ", b' ')?;
     let (array, rest) = number_before(rest, b" array ", b' ')?;
     let (run, rest) = read_run_bounds(rest)?;
     Some((Bounds { k, array, run }, rest))
 }
 
-fn read_run_bounds(text: &[u8]) -> Option<(RunBounds, &[u8])> {
+fn read_run_bounds(text: &[u8]) -> Option<(RunBounds, &[u8])>
+    ensures { IsFrontRead RunFits run_bounds_text text.now result }
+{
     let (alloc, rest) = number_before(text, b" alloc ", b' ')?;
     let (loops, rest) = number_before(rest, b" loops ", b' ')?;
     let (depth, rest) = number_before(rest, b" depth ", b' ')?;
