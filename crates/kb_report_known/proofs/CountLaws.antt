@@ -10,9 +10,9 @@ use Rattle.std.specs.declared.cmp.Ordering.TheVariants.{Less, Equal, Greater}
 use Rattle.std.proofs.lemmas.Bool.{eqb-false, eqb-true, leb-false, leb-true, ltb-false, ltb-true}
 use Rattle.kb_classes.specs.World.{World}
 use Rattle.kb_report_known.proofs.TableLaws.{is_key}
-use Rattle.kb_report_known.specs.Counts.{AreEnough, NamedObjects, changed, missing_below, ways_below}
+use Rattle.kb_report_known.specs.Counts.{AreEnough, NamedObjects, found_among, known_at, known_of, missing_below, ways_below}
 use Rattle.kb_report_known.specs.Known.{nothing_known, ways_of}
-use Rattle.kb_report_known.specs.Listing.{AreLeft, IsCount, IsKept, Passes, known_of}
+use Rattle.kb_report_known.specs.Listing.{AreLeft, IsCount, IsKept, Passes}
 use Rattle.kb_report_known.specs.declared.counting.Count.{Count}
 use Rattle.kb_report_known.specs.declared.known.Known.{Known}
 
@@ -63,28 +63,28 @@ missing_less one other number (suc count) inside same lost found = go (λ h. mis
 
 -- ---- ways
 
-ways_open : (world : World) (objects : NamedObjects) (number more : ℕ) → ((n : ℕ) → number ≤ n → n < number + more → objects.known n ≡ nothing_known)
+ways_open : (world : World) (objects : NamedObjects) (number more : ℕ) → ((n : ℕ) → number ≤ n → n < number + more → known_at objects n ≡ nothing_known)
     → ways_below (Some world) objects (number + more) ≡ ways_below (Some world) objects number + more * 2 ^ 32
 ways_open world objects number zero blank = let same : number + zero ≡ number = omega arith in ap (ways_below (Some world) objects) same ∙ (let e : ways_below (Some world) objects number ≡ ways_below (Some world) objects number + zero * 2 ^ 32 = omega arith in e)
 ways_open world objects number (suc more) blank =
-    let last : ways_of (Some world) (objects.known (number + more)) ≡ 2 ^ 32 = ap (ways_of (Some world)) (blank (number + more) (omega arith) (omega arith)) in
+    let last : ways_of (Some world) (known_at objects (number + more)) ≡ 2 ^ 32 = ap (ways_of (Some world)) (blank (number + more) (omega arith) (omega arith)) in
     let before : ways_below (Some world) objects (number + more) ≡ ways_below (Some world) objects number + more * 2 ^ 32 = ways_open world objects number more (λ n low high. blank n low (omega (arith, high))) in
     let same : number + suc more ≡ suc (number + more) = omega arith in
     ap (ways_below (Some world) objects) same
-    ∙ (let e : ways_below (Some world) objects (number + more) + ways_of (Some world) (objects.known (number + more)) ≡ ways_below (Some world) objects number + suc more * 2 ^ 32 = omega (arith, last, before) in e)
+    ∙ (let e : ways_below (Some world) objects (number + more) + ways_of (Some world) (known_at objects (number + more)) ≡ ways_below (Some world) objects number + suc more * 2 ^ 32 = omega (arith, last, before) in e)
 
-ways_closed : (objects : NamedObjects) (number more : ℕ) → ((n : ℕ) → number ≤ n → n < number + more → objects.known n ≡ nothing_known) → ways_below None objects (number + more) ≡ ways_below None objects number
+ways_closed : (objects : NamedObjects) (number more : ℕ) → ((n : ℕ) → number ≤ n → n < number + more → known_at objects n ≡ nothing_known) → ways_below None objects (number + more) ≡ ways_below None objects number
 ways_closed objects number zero blank = let same : number + zero ≡ number = omega arith in ap (ways_below None objects) same
 ways_closed objects number (suc more) blank =
-    let last : ways_of None (objects.known (number + more)) ≡ 0 = ap (ways_of None) (blank (number + more) (omega arith) (omega arith)) in
+    let last : ways_of None (known_at objects (number + more)) ≡ 0 = ap (ways_of None) (blank (number + more) (omega arith) (omega arith)) in
     let before : ways_below None objects (number + more) ≡ ways_below None objects number = ways_closed objects number more (λ n low high. blank n low (omega (arith, high))) in
     let same : number + suc more ≡ suc (number + more) = omega arith in
-    ap (ways_below None objects) same ∙ (let e : ways_below None objects (number + more) + ways_of None (objects.known (number + more)) ≡ ways_below None objects number = omega (arith, last, before) in e)
+    ap (ways_below None objects) same ∙ (let e : ways_below None objects (number + more) + ways_of None (known_at objects (number + more)) ≡ ways_below None objects number = omega (arith, last, before) in e)
 
 -- ---- one object more
 
 module _ (fields : Option World) (objects : NamedObjects) (count after : Count) (known : Known) where
-  pub passes_one : (may : Bool) → objects.known count.next ≡ known → IsCount fields objects count → count.next < 2 ^ 32 → after.next ≡ min (count.next + 1) (2 ^ 64 - 1)
+  pub passes_one : (may : Bool) → known_at objects count.next ≡ known → IsCount fields objects count → count.next < 2 ^ 32 → after.next ≡ min (count.next + 1) (2 ^ 64 - 1)
       → after.missing ≡ min (count.missing + (if known.is_found then 0 else 1)) (2 ^ 64 - 1) → after.ways ≡ min (count.ways + min (ways_of fields known) (2 ^ 64 - 1)) (2 ^ 64 - 1)
       → may ≡ nat_le after.missing count.ways → Passes fields objects (suc count.next) after may
   passes_one may is before range next_is missing_is ways_is may_is = go may may_is
@@ -92,43 +92,43 @@ module _ (fields : Option World) (objects : NamedObjects) (count after : Count) 
       next : ℕ
       next = count.next
 
-      wants : missing_below objects.known (suc next) ≡ count.missing + (if known.is_found then 0 else 1)
+      wants : missing_below (known_at objects) (suc next) ≡ count.missing + (if known.is_found then 0 else 1)
       wants =
-          let same : (if (objects.known next).is_found then 0 else 1) ≡ (if known.is_found then 0 else 1) = ap (λ (k : Known). if k.is_found then 0 else 1) is in
+          let same : (if (known_at objects next).is_found then 0 else 1) ≡ (if known.is_found then 0 else 1) = ap (λ (k : Known). if k.is_found then 0 else 1) is in
           omega (arith, same, before.missing_is)
 
       gives : ways_below fields objects (suc next) ≡ ways_below fields objects next + ways_of fields known
-      gives = let same : ways_of fields (objects.known next) ≡ ways_of fields known = ap (ways_of fields) is in omega (arith, same)
+      gives = let same : ways_of fields (known_at objects next) ≡ ways_of fields known = ap (ways_of fields) is in omega (arith, same)
 
       go : (b : Bool) → b ≡ nat_le after.missing count.ways → Passes fields objects (suc next) after b
       go false told =
           let more : count.ways < after.missing = leb-false after.missing count.ways (sym told) in
-          (next, (omega arith, omega (arith, more, wants, missing_is, before.ways_are, missing_most objects.known (suc next), range)))
+          (next, (omega arith, omega (arith, more, wants, missing_is, before.ways_are, missing_most (known_at objects) (suc next), range)))
       go true told =
           let fits : after.missing ≤ count.ways = leb-true after.missing count.ways (sym told) in
           let next_of : after.next ≡ suc next = omega (arith, next_is, range) in
-          let enough_here : missing_below objects.known (suc next) ≤ ways_below fields objects next = omega (arith, fits, wants, missing_is, before.ways_are, missing_most objects.known (suc next), range) in (
+          let enough_here : missing_below (known_at objects) (suc next) ≤ ways_below fields objects next = omega (arith, fits, wants, missing_is, before.ways_are, missing_most (known_at objects) (suc next), range) in (
             next_of,
             record {
               range = omega (arith, next_of, range);
-              missing_is = (let e : after.missing ≡ missing_below objects.known (suc next) = omega (arith, missing_is, wants, missing_most objects.known (suc next), range) in e) ∙ ap (missing_below objects.known) (sym next_of);
+              missing_is = (let e : after.missing ≡ missing_below (known_at objects) (suc next) = omega (arith, missing_is, wants, missing_most (known_at objects) (suc next), range) in e) ∙ ap (missing_below (known_at objects)) (sym next_of);
               ways_are = (let e : after.ways ≡ min (ways_below fields objects (suc next)) (2 ^ 64 - 1) = omega (arith, ways_is, before.ways_are, gives) in e) ∙ ap (λ (n : ℕ). min (ways_below fields objects n) (2 ^ 64 - 1)) (sym next_of);
               enough = λ number below. last number (let inside : number < suc next = omega (arith, below, next_of) in inside) enough_here;
             },
           )
         where
-          last : (number : ℕ) → number < suc next → missing_below objects.known (suc next) ≤ ways_below fields objects next → missing_below objects.known (suc number) ≤ ways_below fields objects number
+          last : (number : ℕ) → number < suc next → missing_below (known_at objects) (suc next) ≤ ways_below fields objects next → missing_below (known_at objects) (suc number) ≤ ways_below fields objects number
           last number inside here = pick (number == next) refl
             where
-              pick : (b : Bool) → (number == next) ≡ b → missing_below objects.known (suc number) ≤ ways_below fields objects number
-              pick true e = subst (λ (n : ℕ). missing_below objects.known (suc n) ≤ ways_below fields objects n) (sym (eqb-true number next e)) here
+              pick : (b : Bool) → (number == next) ≡ b → missing_below (known_at objects) (suc number) ≤ ways_below fields objects number
+              pick true e = subst (λ (n : ℕ). missing_below (known_at objects) (suc n) ≤ ways_below fields objects n) (sym (eqb-true number next e)) here
               pick false e = before.enough number (let apart : number ≡ next → ⊥ = eqb-false number next e in omega (arith, inside, apart))
 
 -- ---- objects of which nothing is known
 
 module _ (objects : NamedObjects) (count after : Count) (number : ℕ) where
   abbrev Blank : Type 0
-  Blank = (other : ℕ) → count.next ≤ other → other < number → objects.known other ≡ nothing_known
+  Blank = (other : ℕ) → count.next ≤ other → other < number → known_at objects other ≡ nothing_known
 
   -- an object between is so many behind the next one
   behind : (P : ℕ → Type 0) → ((k : ℕ) → count.next + k < number → P (count.next + k)) → (one : ℕ) → count.next ≤ one → one < number → P one
@@ -136,16 +136,16 @@ module _ (objects : NamedObjects) (count after : Count) (number : ℕ) where
       let place : count.next + (one - count.next) ≡ one = omega (arith, low) in
       subst P place (each (one - count.next) (omega (arith, low, high)))
 
-  missing_at : Blank → (k : ℕ) → count.next + k ≤ number → missing_below objects.known (count.next + k) ≡ missing_below objects.known count.next + k
-  missing_at blank k within = missing_more objects.known count.next k (λ n low high. blank n low (omega (arith, high, within)))
+  missing_at : Blank → (k : ℕ) → count.next + k ≤ number → missing_below (known_at objects) (count.next + k) ≡ missing_below known_at objects count.next + k
+  missing_at blank k within = missing_more known_at objects count.next k (λ n low high. blank n low (omega (arith, high, within)))
 
-  early : (fields : Option World) → IsCount fields objects count → ((k : ℕ) → count.next + k < number → missing_below objects.known (suc (count.next + k)) ≤ ways_below fields objects (count.next + k))
-      → (one : ℕ) → one < number → missing_below objects.known (suc one) ≤ ways_below fields objects one
+  early : (fields : Option World) → IsCount fields objects count → ((k : ℕ) → count.next + k < number → missing_below (known_at objects) (suc (count.next + k)) ≤ ways_below fields objects (count.next + k))
+      → (one : ℕ) → one < number → missing_below (known_at objects) (suc one) ≤ ways_below fields objects one
   early fields before each one inside = go (nat_lt one count.next) refl
     where
-      go : (b : Bool) → nat_lt one count.next ≡ b → missing_below objects.known (suc one) ≤ ways_below fields objects one
+      go : (b : Bool) → nat_lt one count.next ≡ b → missing_below (known_at objects) (suc one) ≤ ways_below fields objects one
       go true e = before.enough one (ltb-true one count.next e)
-      go false e = behind (λ (n : ℕ). missing_below objects.known (suc n) ≤ ways_below fields objects n) each one (ltb-false one count.next e) inside
+      go false e = behind (λ (n : ℕ). missing_below (known_at objects) (suc n) ≤ ways_below fields objects n) each one (ltb-false one count.next e) inside
 
   pub passes_open : (world : World) (may : Bool) → Blank → IsCount (Some world) objects count → count.next < number → number ≤ 2 ^ 32 → after.next ≡ number
       → after.missing ≡ min (count.missing + (number - count.next)) (2 ^ 64 - 1) → after.ways ≡ min (count.ways + min ((number - count.next) * 2 ^ 32) (2 ^ 64 - 1)) (2 ^ 64 - 1)
@@ -153,37 +153,37 @@ module _ (objects : NamedObjects) (count after : Count) (number : ℕ) where
   passes_open world may blank before more range next_is missing_is ways_is may_is = go may may_is
     where
       start : count.missing ≤ count.next
-      start = subst (λ (n : ℕ). n ≤ count.next) (sym before.missing_is) (missing_most objects.known count.next)
+      start = subst (λ (n : ℕ). n ≤ count.next) (sym before.missing_is) (missing_most known_at objects count.next)
 
-      whole : missing_below objects.known number ≡ missing_below objects.known count.next + (number - count.next)
-      whole = let place : count.next + (number - count.next) ≡ number = omega (arith, more) in ap (missing_below objects.known) (sym place) ∙ missing_at blank (number - count.next) (omega (arith, more))
+      whole : missing_below (known_at objects) number ≡ missing_below known_at objects count.next + (number - count.next)
+      whole = let place : count.next + (number - count.next) ≡ number = omega (arith, more) in ap (missing_below (known_at objects)) (sym place) ∙ missing_at blank (number - count.next) (omega (arith, more))
 
       all_ways : ways_below (Some world) objects number ≡ ways_below (Some world) objects count.next + (number - count.next) * 2 ^ 32
       all_ways =
           let place : count.next + (number - count.next) ≡ number = omega (arith, more) in
           ap (ways_below (Some world) objects) (sym place) ∙ ways_open world objects count.next (number - count.next) (λ n low high. blank n low (omega (arith, high, more)))
 
-      each : count.missing < count.ways → (k : ℕ) → count.next + k < number → missing_below objects.known (suc (count.next + k)) ≤ ways_below (Some world) objects (count.next + k)
+      each : count.missing < count.ways → (k : ℕ) → count.next + k < number → missing_below (known_at objects) (suc (count.next + k)) ≤ ways_below (Some world) objects (count.next + k)
       each fits k within =
-          let one : missing_below objects.known (count.next + suc k) ≡ missing_below objects.known count.next + suc k = missing_at blank (suc k) (omega (arith, within)) in
+          let one : missing_below (known_at objects) (count.next + suc k) ≡ missing_below known_at objects count.next + suc k = missing_at blank (suc k) (omega (arith, within)) in
           let same : count.next + suc k ≡ suc (count.next + k) = omega arith in
-          let wants : missing_below objects.known (suc (count.next + k)) ≡ missing_below objects.known count.next + suc k = ap (missing_below objects.known) (sym same) ∙ one in
+          let wants : missing_below (known_at objects) (suc (count.next + k)) ≡ missing_below known_at objects count.next + suc k = ap (missing_below (known_at objects)) (sym same) ∙ one in
           let gives : ways_below (Some world) objects (count.next + k) ≡ ways_below (Some world) objects count.next + k * 2 ^ 32 = ways_open world objects count.next k (λ n low high. blank n low (omega (arith, high, within))) in
           omega (arith, wants, gives, fits, before.missing_is, before.ways_are)
 
       go : (b : Bool) → b ≡ nat_lt count.missing count.ways → Passes (Some world) objects number after b
       go false told =
           let few : count.ways ≤ count.missing = ltb-false count.missing count.ways (sym told) in
-          let one : missing_below objects.known (count.next + 1) ≡ missing_below objects.known count.next + 1 = missing_at blank 1 (omega (arith, more)) in
+          let one : missing_below (known_at objects) (count.next + 1) ≡ missing_below known_at objects count.next + 1 = missing_at blank 1 (omega (arith, more)) in
           let same : count.next + 1 ≡ suc count.next = omega arith in
-          let wants : missing_below objects.known (suc count.next) ≡ missing_below objects.known count.next + 1 = ap (missing_below objects.known) (sym same) ∙ one in
+          let wants : missing_below (known_at objects) (suc count.next) ≡ missing_below known_at objects count.next + 1 = ap (missing_below (known_at objects)) (sym same) ∙ one in
           (count.next, (more, omega (arith, few, wants, before.missing_is, before.ways_are, start, more, range)))
       go true told =
           let fits : count.missing < count.ways = ltb-true count.missing count.ways (sym told) in (
             next_is,
             record {
               range = omega (arith, next_is, range);
-              missing_is = (let e : after.missing ≡ missing_below objects.known number = omega (arith, missing_is, whole, before.missing_is, start, more, range) in e) ∙ ap (missing_below objects.known) (sym next_is);
+              missing_is = (let e : after.missing ≡ missing_below (known_at objects) number = omega (arith, missing_is, whole, before.missing_is, start, more, range) in e) ∙ ap (missing_below (known_at objects)) (sym next_is);
               ways_are = (let e : after.ways ≡ min (ways_below (Some world) objects number) (2 ^ 64 - 1) = omega (arith, ways_is, before.ways_are, all_ways) in e) ∙ ap (λ (n : ℕ). min (ways_below (Some world) objects n) (2 ^ 64 - 1)) (sym next_is);
               enough = λ one inside. early (Some world) before (each fits) one (let below : one < number = omega (arith, inside, next_is) in below);
             },
@@ -195,10 +195,10 @@ module _ (objects : NamedObjects) (count after : Count) (number : ℕ) where
   passes_closed may blank before more range next_is missing_is ways_is may_is = go may may_is
     where
       start : count.missing ≤ count.next
-      start = subst (λ (n : ℕ). n ≤ count.next) (sym before.missing_is) (missing_most objects.known count.next)
+      start = subst (λ (n : ℕ). n ≤ count.next) (sym before.missing_is) (missing_most known_at objects count.next)
 
-      whole : missing_below objects.known number ≡ missing_below objects.known count.next + (number - count.next)
-      whole = let place : count.next + (number - count.next) ≡ number = omega (arith, more) in ap (missing_below objects.known) (sym place) ∙ missing_at blank (number - count.next) (omega (arith, more))
+      whole : missing_below (known_at objects) number ≡ missing_below known_at objects count.next + (number - count.next)
+      whole = let place : count.next + (number - count.next) ≡ number = omega (arith, more) in ap (missing_below (known_at objects)) (sym place) ∙ missing_at blank (number - count.next) (omega (arith, more))
 
       ways_at : (k : ℕ) → count.next + k ≤ number → ways_below None objects (count.next + k) ≡ ways_below None objects count.next
       ways_at k within = ways_closed objects count.next k (λ n low high. blank n low (omega (arith, high, within)))
@@ -206,11 +206,11 @@ module _ (objects : NamedObjects) (count after : Count) (number : ℕ) where
       all_ways : ways_below None objects number ≡ ways_below None objects count.next
       all_ways = let place : count.next + (number - count.next) ≡ number = omega (arith, more) in ap (ways_below None objects) (sym place) ∙ ways_at (number - count.next) (omega (arith, more))
 
-      wants : (k : ℕ) → count.next + k < number → missing_below objects.known (suc (count.next + k)) ≡ missing_below objects.known count.next + suc k
+      wants : (k : ℕ) → count.next + k < number → missing_below (known_at objects) (suc (count.next + k)) ≡ missing_below known_at objects count.next + suc k
       wants k within =
-          let one : missing_below objects.known (count.next + suc k) ≡ missing_below objects.known count.next + suc k = missing_at blank (suc k) (omega (arith, within)) in
+          let one : missing_below (known_at objects) (count.next + suc k) ≡ missing_below known_at objects count.next + suc k = missing_at blank (suc k) (omega (arith, within)) in
           let same : count.next + suc k ≡ suc (count.next + k) = omega arith in
-          ap (missing_below objects.known) (sym same) ∙ one
+          ap (missing_below (known_at objects)) (sym same) ∙ one
 
       go : (b : Bool) → b ≡ nat_le (min (count.missing + (number - count.next)) (2 ^ 64 - 1)) count.ways → Passes None objects number after b
       go false told =
@@ -225,7 +225,7 @@ module _ (objects : NamedObjects) (count after : Count) (number : ℕ) where
             next_is,
             record {
               range = omega (arith, next_is, range);
-              missing_is = (let e : after.missing ≡ missing_below objects.known number = omega (arith, missing_is, whole, before.missing_is, start, more, range) in e) ∙ ap (missing_below objects.known) (sym next_is);
+              missing_is = (let e : after.missing ≡ missing_below (known_at objects) number = omega (arith, missing_is, whole, before.missing_is, start, more, range) in e) ∙ ap (missing_below (known_at objects)) (sym next_is);
               ways_are = ways_is ∙ before.ways_are ∙ ap (λ (n : ℕ). min n (2 ^ 64 - 1)) (sym all_ways) ∙ ap (λ (n : ℕ). min (ways_below None objects n) (2 ^ 64 - 1)) (sym next_is);
               enough = λ one inside. early None before (λ k within. (
                   let wanted = wants k within in
@@ -384,7 +384,7 @@ module _ (found : ℕ → Option Known) (count missing : ℕ) (kept : IsKept fou
           go true p = ap (λ (o : Option Known). (known_of o).is_found) (is number ∙ ap (λ (b : Bool). if b then Some known else found number) p) ∙ now
           go false p = absurd (eqb-false number number p refl)
 
--- ---- a value that is put into a table of functions
+-- ---- an entry more
 
 pub put_in : (old new : ℕ → Option Known) (number : ℕ) (known : Known) → ((n : ℕ) → new n ≡ cond (is_eq (nat_cmp number n)) (Some known) (old n)) → (n : ℕ) → new n ≡ (if n == number then Some known else old n)
 put_in old new number known is n = is n ∙ ap (λ (b : Bool). cond b (Some known) (old n)) (is_key number n ∙ turned (number == n) refl (n == number) refl)
@@ -394,13 +394,3 @@ put_in old new number known is n = is n ∙ ap (λ (b : Bool). cond b (Some know
     turned true p false q = absurd (eqb-false n number q (sym (eqb-true number n p)))
     turned false p true q = absurd (eqb-false number n p (sym (eqb-true n number q)))
     turned false p false q = refl
-
-pub changed_is : (old new : ℕ → Option Known) (number : ℕ) (known : Known) → ((n : ℕ) → new n ≡ (if n == number then Some known else old n)) → (λ (n : ℕ). known_of (new n)) ≡ changed (λ (n : ℕ). known_of (old n)) number known
-changed_is old new number known is = λ i n. at n i
-  where
-    at : (n : ℕ) → known_of (new n) ≡ changed (λ (m : ℕ). known_of (old m)) number known n
-    at n = ap known_of (is n) ∙ go (n == number)
-      where
-        go : (b : Bool) → known_of (if b then Some known else old n) ≡ (if b then known else known_of (old n))
-        go true = refl
-        go false = refl

@@ -1,24 +1,12 @@
 -- What the table of objects and the count over it stand for.
-use Rattle.std.specs.Prelude.{◌≡◌, ℕ, suc, ◌-◌, ◌^◌, ◌<◌, ◌≤◌, min, Bool, true, false, List, [], ◌∷◌, Option, None, unwrap_or}
-use Rattle.std.specs.BTreeMap.{BTreeMap, get}
-use Rattle.std.specs.Ordering.{nat_cmp}
+use Rattle.std.specs.Prelude.{◌≡◌, ℕ, suc, ◌-◌, ◌^◌, ◌<◌, ◌≤◌, min, Bool, true, false, List, [], ◌∷◌, Option, None}
 use Rattle.kb_classes.specs.World.{World}
-use Rattle.kb_report_known.specs.Counts.{NamedObjects, argument_ways, missing_below, ways_below}
+use Rattle.kb_report_known.specs.Counts.{NamedObjects, known_at, known_of, missing_below, ways_below}
 use Rattle.kb_report_known.specs.Known.{nothing_known}
 use Rattle.kb_report_known.specs.declared.counting.Count.{Count}
 use Rattle.kb_report_known.specs.declared.known.Known.{Known}
 
 -- ---- the table
-
--- what the table says of an object: nothing where it has none
-abbrev pub known_of : Option Known → Known
-known_of known = unwrap_or known nothing_known
-
-abbrev pub found_in : BTreeMap ℕ Known → ℕ → Option Known
-found_in table number = get nat_cmp table number
-
-abbrev pub known_in : BTreeMap ℕ Known → ℕ → Known
-known_in table number = known_of (found_in table number)
 
 -- The table has objects with numbers below the count, which is in its range, and so many of them are not found.
 pub record IsKept (found : ℕ → Option Known) (count missing : ℕ) : Type 0 where
@@ -37,11 +25,11 @@ AreLeft known count next (entry ∷ entries) =
 -- The count is that of the objects below its next one, up to each of which there are enough ways.
 pub record IsCount (fields : Option World) (objects : NamedObjects) (count : Count) : Type 0 where
   pub range : count.next ≤ 2 ^ 32
-  pub missing_is : count.missing ≡ missing_below objects.known count.next
+  pub missing_is : count.missing ≡ missing_below (known_at objects) count.next
   pub ways_are : count.ways ≡ min (ways_below fields objects count.next) (2 ^ 64 - 1)
-  pub enough : (number : ℕ) → number < count.next → missing_below objects.known (suc number) ≤ ways_below fields objects number
+  pub enough : (number : ℕ) → number < count.next → missing_below (known_at objects) (suc number) ≤ ways_below fields objects number
 
 -- it is the count of the first so many objects, or up to one of them there are not enough ways
 abbrev pub Passes : Option World → NamedObjects → ℕ → Count → Bool → Type 0
 Passes fields objects number after true = (after.next ≡ number) × IsCount fields objects after
-Passes fields objects number after false = (one : ℕ) × (one < number) × (ways_below fields objects one < missing_below objects.known (suc one))
+Passes fields objects number after false = (one : ℕ) × (one < number) × (ways_below fields objects one < missing_below (known_at objects) (suc one))

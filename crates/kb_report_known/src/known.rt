@@ -100,7 +100,7 @@ impl Known {
     /// How many greater objects may still be found in its slots: where the see lines are over, in those alone that are locations,
     /// and no fields are given.
     pub(crate) fn ways(self, fields: Option<&Fields<'_>>) -> u64
-        ensures { result ≡ min (ways_of (option_copied fields) self) (2 ^ 64 - 1) }
+        ensures { result ≡ min (ways_of (option_copied fields.entry) self) (2 ^ 64 - 1) }
     {
         match fields {
             Some(fields) => {

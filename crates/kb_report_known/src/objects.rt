@@ -7,7 +7,7 @@ ghost use Rattle.kb_picture.specs.WellFormed.{HasElement};
 ghost use Rattle.kb_picture.specs.declared.picture.Length.{Length};
 ghost use Rattle.kb_report_known.specs.Fields.{has_field_at};
 ghost use Rattle.kb_report_known.specs.Listing.{AreLeft, IsCount};
-ghost use Rattle.kb_report_known.specs.Counts.{AreEnough, NamedObjects, missing_below, no_objects, now_found, seen_more, with_argument, with_known, with_lead, with_line, with_object, with_waiting, SeesSlot, is_smaller};
+ghost use Rattle.kb_report_known.specs.Counts.{AreEnough, NamedObjects, known_at, missing_below, no_objects, now_found, seen_more, with_argument, with_known, with_lead, with_line, with_object, with_waiting, SeesSlot, is_smaller};
 
 use crate::NoMemory;
 use crate::counting::Count;
@@ -35,14 +35,14 @@ pub struct Objects {
 }
 
 impl Model for Objects {
-    ghost use Rattle.kb_report_known.specs.Counts.{NamedObjects};
-    ghost use Rattle.kb_report_known.specs.Listing.{found_in, known_in, IsKept};
+    ghost use Rattle.kb_report_known.specs.Counts.{NamedObjects, found_among};
+    ghost use Rattle.kb_report_known.specs.Listing.{IsKept};
 
     ghost Value = { NamedObjects };
 
-    ghost view = { λ o. record { known = known_in o.known; count = o.count; unseen = o.unseen; waiting = o.waiting } };
+    ghost view = { λ o. record { entries = o.known.entries; count = o.count; unseen = o.unseen; waiting = o.waiting } };
 
-    ghost invariant = { λ o. IsKept (found_in o.known) o.count o.missing };
+    ghost invariant = { λ o. IsKept (found_among o.known.entries) o.count o.missing };
 }
 
 impl Objects {
@@ -68,21 +68,21 @@ impl Objects {
 
     /// Whether each of them is found.
     pub fn are_found(&self) -> bool
-        ensures { result ≡ (missing_below self.now.known self.now.count == 0) }
+        ensures { result ≡ (missing_below (known_at self.now) self.now.count == 0) }
     {
         self.missing == 0
     }
 
     /// What is known of an object's type.
     pub fn shape(&self, number: u32) -> Shape
-        ensures { result ≡ (self.now.known number).shape }
+        ensures { result ≡ (known_at self.now number).shape }
     {
         self.known(number).shape
     }
 
     // What is known of an object.
     fn known(&self, number: u32) -> Known
-        ensures { result ≡ self.now.known number }
+        ensures { result ≡ known_at self.now number }
     {
         match self.known.get(&number) {
             Some(known) => *known,
@@ -125,7 +125,7 @@ impl Objects {
     // One slot more of the object is seen.
     fn see_slot(&mut self, object: u32, shape: Shape) -> Result<bool, NoMemory>
         ensures seen { IfOk result (λ seen. seen ≡ true) }
-        ensures { OnOk result (self.new ≡ with_known self.old object (seen_more (self.old.known object) shape)) }
+        ensures known { OnOk result (self.new ≡ with_known self.old object (seen_more (known_at self.old object) shape)) }
     {
         let mut known = self.known(object);
         known.shape = shape;
@@ -148,7 +148,7 @@ impl Objects {
 
     // So much is known of the object, which is named; it is found if it was.
     fn note(&mut self, number: u32, known: Known) -> Result<(), NoMemory>
-        requires { known.is_found ≡ (self.old.known number).is_found }
+        requires { known.is_found ≡ (known_at self.old number).is_found }
         ensures { OnOk result (self.new ≡ with_known self.old number known) }
     {
         self.name(number);
@@ -168,7 +168,7 @@ impl Objects {
     }
 
     fn find(&mut self, number: u32) -> Result<(), NoMemory>
-        ensures { OnOk result (self.new ≡ with_known self.old number (now_found (self.old.known number))) }
+        ensures { OnOk result (self.new ≡ with_known self.old number (now_found (known_at self.old number))) }
     {
         let mut known = self.known(number);
         if known.is_found {
@@ -210,7 +210,7 @@ impl Objects {
     /// Whether each object may still be found, in slots that are not seen and in locations; where the see lines are over, and no
     /// fields are given, in locations alone.
     pub fn may_be_found(&self, fields: Option<&Fields<'_>>) -> bool
-        ensures { IsTrue result ↔ AreEnough (option_copied fields) self.now }
+        ensures { IsTrue result ↔ AreEnough (option_copied fields.entry) self.now }
     {
         if self.are_found() {
             return true;
@@ -227,8 +227,8 @@ fn pass_all(
     number: u64,
     fields: Option<&Fields<'_>>,
 ) -> bool
-    ensures { (objects : NamedObjects) → objects.count ≡ number → number ≤ 2 ^ 32 → AreLeft objects.known number before.next entries → before.next ≤ number → IsCount (option_copied fields) objects before
-        → IsTrue result ↔ AreEnough (option_copied fields) objects }
+    ensures { (objects : NamedObjects) → objects.count ≡ number → number ≤ 2 ^ 32 → AreLeft (known_at objects) number before.next entries.entry → before.next ≤ number → IsCount (option_copied fields.entry) objects before
+        → IsTrue result ↔ AreEnough (option_copied fields.entry) objects }
 {
     let mut count = before;
     let mut rest = entries;
