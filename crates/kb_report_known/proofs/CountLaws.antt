@@ -238,7 +238,7 @@ module _ (objects : NamedObjects) (count after : Count) (number : ℕ) where
 
 pub counts_all : (fields : Option World) (objects : NamedObjects) (number : ℕ) (after : Count) (told : Bool) → objects.count ≡ number → Passes fields objects number after told → IsTrue told ↔ AreEnough fields objects
 counts_all fields objects number after true same passes =
-    ((λ yes. (λ one inside. passes.1.enough one (let below : one < after.next = omega (arith, inside, same, passes.0) in below))), (λ enough. refl))
+    ((λ told. (λ one inside. passes.1.enough one (let below : one < after.next = omega (arith, inside, same, passes.0) in below))), (λ enough. refl))
 counts_all fields objects number after false same passes =
     ((λ none. absurd cc), (λ enough. absurd (let fits = enough passes.0 (let below : passes.0 < objects.count = omega (arith, passes.1, same) in below) in omega (arith, fits, passes.2))))
 

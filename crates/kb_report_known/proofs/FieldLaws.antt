@@ -1,9 +1,9 @@
 -- Objects that have a field have its slot, and the table of the most slots says what it is to say.
-use Rattle.std.proofs.Common.{◌≡◌, ◌⊎◌, inl, inr, ◌↔◌, ℕ, zero, suc, ◌<◌, ◌≤◌, ◌==◌, ◌&&◌, ◌||◌, Bool, true, false, List, [], ◌∷◌, length, map, Option, Some, None, refl, sym, ap, subst, ◌∙◌, arith}
+use Rattle.std.proofs.Common.{◌≡◌, ◌⊎◌, inl, inr, ◌↔◌, ℕ, zero, suc, ◌<◌, ◌≤◌, ◌==◌, ◌&&◌, ◌||◌, Bool, true, false, true≢false, List, [], ◌∷◌, length, map, Option, Some, None, refl, sym, ap, subst, ◌∙◌, arith}
 use Rattle.std.specs.Prelude.{nat_lt, slice_get, slice_index_or}
 use Rattle.std.specs.List.{list_any}
 use Rattle.std.specs.Option.{option_map, option_map_or}
-use Rattle.std.proofs.lemmas.Bool.{eqb-true, eq-eqb}
+use Rattle.std.proofs.lemmas.Bool.{and_parts, eqb-true, eq-eqb, ltb-false, ltb-true}
 use Rattle.std.proofs.lemmas.List.{get_or_past}
 use Rattle.std.proofs.lemmas.Option.{none-some, same_Some, slice_get-map}
 use Rattle.kb_class.specs.Class.{Class}
@@ -19,7 +19,7 @@ use Rattle.kb_names.specs.declared.types.ExactType.{ExactType}
 use Rattle.kb_names.specs.declared.types.ExactType.TheVariants as exact
 use Rattle.kb_report_text.specs.Slots.{field_of_type}
 use Rattle.kb_semantics.specs.Values.{slots_of_class}
-use Rattle.kb_report_known.proofs.ChainLaws.{below_through, one_below, slot_below, slot_declared, slots_end}
+use Rattle.kb_report_known.proofs.ChainLaws.{below_through, ends_with, one_below, slot_below, slot_declared, slots_end}
 use Rattle.kb_report_known.specs.Fields.{has_field_at, is_below, is_class_below, is_there_below, IsFieldAt, IsMost}
 use Rattle.kb_report_known.proofs.TableLaws.{have_most, HaveMost}
 use Rattle.kb_report_known.specs.Tables.{declares_some, most_below}
@@ -45,6 +45,9 @@ below_of_name world linked number high name is =
 -- a class that is there, or not
 pub is_there : (world : World) (low high : ℕ) (has : Bool) → has ≡ nat_lt low (length world.classes) → has ≡ true → is_there_below world low high ≡ is_class_below world low high
 is_there world low high has is told = ap (λ (b : Bool). b && is_class_below world low high) (sym is ∙ told)
+
+pub there_true : (world : World) (low high : ℕ) (has : Bool) → has ≡ is_there_below world low high → has ≡ true → is_class_below world low high ≡ true
+there_true world low high has is told = (and_parts (nat_lt low (length world.classes)) (is_class_below world low high) (sym is ∙ told)).1
 
 pub is_not_there : (world : World) (low high : ℕ) (has : Bool) → has ≡ nat_lt low (length world.classes) → has ≡ false → false ≡ is_there_below world low high
 is_not_there world low high has is told = sym (ap (λ (b : Bool). b && is_class_below world low high) (sym is ∙ told))
@@ -145,6 +148,21 @@ module _ (world : World) (links : 0 < length world.classes → IsLinked world) w
           → list_any (λ (above : ℕ). above == upper.class.0) (option_map_or (chain_of world) o []) ≡ true
       go None is has = absurd cc
       go (Some low) is has = below_through world (linked_at name low is) low lower.class.0 upper.class.0 has below
+
+  -- the class of a field that an object has is there
+  pub class_there : (kind : ExactType) (field : FieldAt) → has_field_at world kind field ≡ true → field.class.0 < length world.classes
+  class_there (exact.Array component) field has = absurd cc
+  class_there (exact.Class name) field has = go (number_in world.classes name) refl has
+    where
+      inside : (linked : IsLinked world) (high : ℕ) → is_class_below world high high ≡ true → (b : Bool) → nat_lt high (length world.classes) ≡ b → high < length world.classes
+      inside linked high itself true e = ltb-true high (length world.classes) e
+      inside linked high itself false e = absurd (true≢false (sym itself ∙ none_above world linked high high (ltb-false high (length world.classes) e)))
+
+      go : (o : Option ℕ) → number_in world.classes name ≡ o → list_any (λ (above : ℕ). above == field.class.0) (option_map_or (chain_of world) o []) ≡ true → field.class.0 < length world.classes
+      go None is has = absurd cc
+      go (Some low) is has =
+          let linked = linked_at name low is in
+          inside linked field.class.0 (ends_with world linked low field.class.0 has).itself (nat_lt field.class.0 (length world.classes)) refl
 
   -- and where an object has both, the class of one is below the other's
   pub one_of_both : (kind : ExactType) (one other : FieldAt) → has_field_at world kind one ≡ true → has_field_at world kind other ≡ true

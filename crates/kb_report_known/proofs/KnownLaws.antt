@@ -1,5 +1,7 @@
 -- What one slot more says of the exact type of an object.
-use Rattle.std.proofs.Common.{◌≡◌, ◌↔◌, inl, inr, ℕ, ◌<◌, ◌≤◌, Bool, true, false, true≢false, length, max, Option, Some, None, refl, sym, ◌∙◌, arith}
+use Rattle.std.proofs.Common.{◌≡◌, ◌↔◌, inl, inr, ℕ, ◌<◌, ◌≤◌, Bool, true, false, true≢false, length, max, Option, Some, None, refl, sym, ap, ◌∙◌, ◌&&◌, arith}
+use Rattle.std.specs.Prelude.{nat_lt}
+use Rattle.std.proofs.lemmas.Bool.{ltb-false}
 use Rattle.kb_classes.specs.World.{World}
 use Rattle.kb_link.specs.Links.{IsLinked}
 use Rattle.kb_names.specs.declared.types.ExactType.{ExactType}
@@ -7,8 +9,8 @@ use Rattle.kb_names.specs.declared.types.ExactType.TheVariants as exact
 use Rattle.kb_picture.specs.WellFormed.{HasElement, IsLengthOf}
 use Rattle.kb_picture.specs.declared.picture.Length.{Length}
 use Rattle.kb_picture.specs.declared.picture.Length.TheVariants.{Plain, Is, Above}
-use Rattle.kb_report_known.proofs.FieldLaws.{has_both, one_of_both}
-use Rattle.kb_report_known.specs.Fields.{has_field_at, is_class_below}
+use Rattle.kb_report_known.proofs.FieldLaws.{class_there, has_both, one_of_both}
+use Rattle.kb_report_known.specs.Fields.{has_field_at, is_class_below, is_there_below}
 use Rattle.kb_report_known.specs.Known.{FitsShape, IsShapeWith}
 use Rattle.kb_report_known.specs.declared.fields.FieldAt.{FieldAt}
 use Rattle.kb_report_known.specs.declared.known.Shape.{Shape}
@@ -38,11 +40,18 @@ module _ (world : World) (links : 0 < length world.classes → IsLinked world) (
   pub field_below : is_class_below world field.class.0 lowest.class.0 ≡ true → IsShapeWith world (Fields lowest) (HasField world field) (Some (Fields field))
   field_below below kind len is = ((λ has. (has_both world links kind field lowest below has, has)), (λ both. both.1))
 
-  pub field_apart : is_class_below world lowest.class.0 field.class.0 ≡ false → is_class_below world field.class.0 lowest.class.0 ≡ false → IsShapeWith world (Fields lowest) (HasField world field) None
+  pub field_apart : is_there_below world lowest.class.0 field.class.0 ≡ false → is_there_below world field.class.0 lowest.class.0 ≡ false → IsShapeWith world (Fields lowest) (HasField world field) None
   field_apart up down kind len is one other = elim (one_of_both world links kind lowest field one other) [
-    | inl below ↦ true≢false (sym below ∙ up)
-    | inr below ↦ true≢false (sym below ∙ down)
+    | inl below ↦ true≢false (sym (both lowest.class.0 field.class.0 (class_there world links kind lowest one) below) ∙ up)
+    | inr below ↦ true≢false (sym (both field.class.0 lowest.class.0 (class_there world links kind field other) below) ∙ down)
   ]
+    where
+      both : (low high : ℕ) → low < length world.classes → is_class_below world low high ≡ true → is_there_below world low high ≡ true
+      both low high inside below = go (nat_lt low (length world.classes)) refl
+        where
+          go : (b : Bool) → nat_lt low (length world.classes) ≡ b → is_there_below world low high ≡ true
+          go true e = ap (λ (b : Bool). b && is_class_below world low high) e ∙ below
+          go false e = absurd (let outside : length world.classes ≤ low = ltb-false low (length world.classes) e in omega (arith, outside, inside))
 
 abbrev pub HasIndex : ℕ → ExactType → Length → Type 0
 HasIndex index kind length = HasElement length index

@@ -142,7 +142,7 @@ module _ (world : World) (class : ℕ) where
       kept text is = subst IsSome (sym (own text)) (go (test text))
         where
           go : (b : Bool) → IsSome (if b then Some (field_at slot) else old text)
-          go true = tt
+          go true = refl
           go false = is
 
       itself : (field : FieldSlot) → slot ≡ field → field.class.0 ≡ class → IsSome (new (field_text world field))
@@ -150,7 +150,7 @@ module _ (world : World) (class : ℕ) where
           let text = field_text world field in
           let passes : test text ≡ true = both (slot.class.0 == class) (bytes_eq text (field_text world slot)) (eq-eqb slot.class.0 class (ap (λ (s : FieldSlot). s.class.0) same ∙ declares))
           ((bytes_eq-Decides text (field_text world slot)).1 (ap (field_text world) (sym same))) in
-          more.kept text (subst IsSome (sym (own text ∙ ap (λ (b : Bool). if b then Some (field_at slot) else old text) passes)) tt)
+          more.kept text (subst IsSome (sym (own text ∙ ap (λ (b : Bool). if b then Some (field_at slot) else old text) passes)) refl)
         where
           both : (a b : Bool) → a ≡ true → b ≡ true → (a && b) ≡ true
           both a b p q = rw (p, q) refl
@@ -186,7 +186,8 @@ module _ (world : World) where
       own : (text : List ℕ) (at : FieldAt) → IsAdded world class (slots_of world class) text at → IsTextOf world text at
       own text at added =
           let field = added.field in
-          let slot : field.slot ≡ added.there.0 = numbered_slot 0 _ added.there.0 field added.there.1 in
+          let numbered_as : field.slot ≡ 0 + added.there.0 = numbered_slot 0 _ added.there.0 field added.there.1 in
+          let slot : field.slot ≡ added.there.0 = omega (arith, numbered_as) in
           let class_of : at.class.0 ≡ class = ap (λ (a : FieldAt). a.class.0) added.is ∙ added.declares in
           let slot_is : at.slot ≡ added.there.0 = ap (λ (a : FieldAt). a.slot) added.is ∙ slot in (
             field,
@@ -215,6 +216,13 @@ module _ (world : World) where
               let other : at.class.0 ≡ class → ⊥ = eqb-false at.class.0 class e in
               adds.kept (field_text world field) (are.all at field (omega (arith, below, other)) is)
 
+  -- one class more, as the loop over them has it
+  pub fields_step : (class next : ℕ) (named : World) (slots : List FieldSlot) (old new : List ℕ → Option FieldAt) → class < length world.classes → next ≡ class + 1 → named ≡ world → slots ≡ slots_of world class
+      → AreFields world class old → AddsFields named class slots old new → AreFields world next new
+  fields_step class next named slots old new inside more same slots_are are adds =
+      subst (λ (n : ℕ). AreFields world n new) (let e : suc class ≡ next = omega (arith, more) in e)
+      (fields_next class old new inside are (subst (λ (w : World). AddsFields w class (slots_of world class) old new) same (subst (λ (l : List FieldSlot). AddsFields named class l old new) slots_are adds)))
+
   pub fields_all : (classes many : ℕ) (find : List ℕ → Option FieldAt) → many ≤ classes → AreFields world classes find → AreFields world many find
   fields_all classes many find most are = record { found = are.found; all = λ at field below is. are.all at field (omega (arith, below, most)) is }
 
@@ -238,11 +246,11 @@ noted class count old new is more other = is other ∙ ap (λ (b : Bool). if b t
         sym (ap (λ (b : Bool). if b then count else old other) (less (old other) count (subst (λ (n : ℕ). old n < count) same more)))
       where
         less : (a b : ℕ) → a < b → nat_lt a b ≡ true
-        less a b h = go (nat_lt a b) refl
+        less a b h = pick (nat_lt a b) refl
           where
-            go : (t : Bool) → nat_lt a b ≡ t → nat_lt a b ≡ true
-            go true e = e
-            go false e = absurd (let high : b ≤ a = ltb-false a b e in omega (arith, high, h))
+            pick : (t : Bool) → nat_lt a b ≡ t → nat_lt a b ≡ true
+            pick true e = e
+            pick false e = absurd (let high : b ≤ a = ltb-false a b e in omega (arith, high, h))
     go false e = refl
 
 -- nothing is to be noted where as many are
@@ -373,6 +381,11 @@ module _ (world : World) where
   pub table_next : (number : ℕ) (old new : ℕ → ℕ) → AreMost world number old → Notes (slots_of world number) (length (slots_of world number)) old new → AreMost world (suc number) new
   table_next number old new are notes class =
       notes class ∙ ap (λ (m : ℕ). if declares_some (slots_of world number) class then greater (length (slots_of world number)) m else m) (are class)
+
+  pub table_step : (number next : ℕ) (slots : List FieldSlot) (old new : ℕ → ℕ) → next ≡ number + 1 → slots ≡ slots_of world number → AreMost world number old → Notes slots (length slots) old new → AreMost world next new
+  table_step number next slots old new more slots_are are notes =
+      subst (λ (n : ℕ). AreMost world n new) (let e : suc number ≡ next = omega (arith, more) in e)
+      (table_next number old new are (subst (λ (l : List FieldSlot). Notes l (length l) old new) slots_are notes))
 
   pub table_all : (classes many : ℕ) (most : ℕ → ℕ) → many ≤ classes → AreMost world classes most → classes ≤ many → AreMost world many most
   table_all classes many most low are high = subst (λ (n : ℕ). AreMost world n most) (let same : classes ≡ many = omega (arith, low, high) in same) are

@@ -69,10 +69,15 @@ impl Count {
         ensures { (objects : NamedObjects) → known_at objects self.old.next ≡ known → IsCount (option_copied fields.entry) objects self.old → self.old.next < 2 ^ 32
             → Passes (option_copied fields.entry) objects (suc self.old.next) self.new result }
     {
-        self.next = self.next.saturating_add(1);
-        self.missing = self.missing.saturating_add(wanted(known));
-        let may = self.missing <= self.ways;
-        self.ways = self.ways.saturating_add(known.ways(fields));
+        let next = self.next.saturating_add(1);
+        let missing = self.missing.saturating_add(wanted(known));
+        let may = missing <= self.ways;
+        let ways = self.ways.saturating_add(known.ways(fields));
+        *self = Count {
+            next,
+            missing,
+            ways,
+        };
         may
     }
 }

@@ -222,7 +222,16 @@ fn most_of(alloc: Global, world: &World) -> Result<BTreeMap<u32, usize>, NoMemor
 fn note_counts(slots: &[FieldSlot], most: &mut BTreeMap<u32, usize>) -> Result<(), NoMemory>
     ensures { OnOk result (Notes slots.now (length slots.now) (most_in most.old) (most_in most.new)) }
 {
-    let count = slots.len();
+    note_all(slots, slots.len(), most)
+}
+
+fn note_all(
+    slots: &[FieldSlot],
+    count: usize,
+    most: &mut BTreeMap<u32, usize>,
+) -> Result<(), NoMemory>
+    ensures { OnOk result (Notes slots.now count (most_in most.old) (most_in most.new)) }
+{
     let mut rest = slots;
     while let [slot, others @ ..] = rest {
         note_count(slot.class.0, count, most)?;

@@ -63,6 +63,7 @@ impl Shape {
 fn lower(fields: &Fields<'_>, lowest: FieldAt, field: FieldAt) -> Option<Shape>
     ensures { IsShapeWith fields.now (ShapeFields lowest) (λ (kind : ExactType) (length : Length). has_field_at fields.now kind field ≡ true) result }
 {
+    fields.tell_linked();
     if fields.has(lowest.class, field) {
         return Some(Shape::Fields(lowest));
     }
