@@ -1,13 +1,11 @@
 #!/usr/bin/env python3
 """Runs kb_dimacs and MiniSat side by side on formulas about ints of 32 bits.
 
-For each family of bench/formulas.py and each of its sizes: what both say, how many clauses each learned (MiniSat's
-conflicts, and the entries of our log that are not the resolvent of two clauses), the processor time of each, their ratio in
-total and by learned clause, and the time of the check of our log beside that of the solving. A run fails where the two
-disagree, or where the values of a satisfiable formula do not satisfy it.
+For each family of bench/formulas.py and each of its sizes: what both say, how many clauses each learned (the conflicts that
+each met), the processor time of each, their ratio in total and by learned clause, and the time of the check of our log beside
+that of the solving. A run fails where the two disagree, or where the values of a satisfiable formula do not satisfy it.
 
-Resolvents come from the elimination of variables. A clause that was learned in one step is one too, so the count of what we
-learned is a little low.
+What our log says is no measure of what was learned: a refutation has only the entries that it needs.
 
 A run over the time limit counts as unknown.
 
@@ -29,7 +27,7 @@ import formulas
 
 ROOT = Path(__file__).resolve().parent.parent
 PROGRAM = ROOT / "build" / "kb_dimacs"
-SOURCES = ["kb_rows", "kb_chain", "kb_propagate", "kb_eliminate", "kb_sat", "kb_outside", "kb_dimacs_text", "kb_dimacs"]
+SOURCES = ["kb_rows", "kb_chain", "kb_propagate", "kb_eliminate", "kb_log_cut", "kb_sat", "kb_outside", "kb_dimacs_text", "kb_dimacs"]
 SAMPLE = ROOT / "crates" / "kb_dimacs" / "stdin"
 
 # exit statuses of the SAT competitions
@@ -95,7 +93,7 @@ def number(pattern, out):
 
 
 def we_learned(out):
-    return number(r"^c entries (\d+)", out) - number(r"^c one-step (\d+)", out)
+    return number(r"^c conflicts (\d+)", out)
 
 
 def minisat_learned(out):
@@ -119,7 +117,7 @@ def satisfies(formula, text):
 
 
 def per_clause(ours, theirs):
-    """The ratio of the times by learned clause; for a satisfiable formula we tell no entries."""
+    """The ratio of the times by learned clause, where neither had the luck of a model."""
     if ours.answer == "sat" or not ours.learned or not theirs.learned:
         return "-"
     return f"{ours.seconds / ours.learned / max(theirs.seconds / theirs.learned, 1e-9):.2f}"

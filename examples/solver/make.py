@@ -36,9 +36,10 @@ def pigeon_rows():
     for holes in range(1, 8):
         yield pigeons(holes + 1, holes)
         yield "solve 100000: refuted"
-    yield "# Before there were so many conflicts the clauses were reduced. The first search eliminates variables."
+    yield "# Before there were so many conflicts the clauses were reduced. The first search answers: were its budget spent, so many"
+    yield "# entries would be learned, but for resolvents, which are fewer than the 204 clauses."
     yield "exceeds 100000 1000: refuted true"
-    yield "eliminates 100000: true"
+    yield "exceeds 100000 99000: refuted false"
     yield pigeons(5, 5)
     yield "solve 100000: model"
     yield pigeons(11, 10)
@@ -59,6 +60,17 @@ def ring_rows():
         yield formula(f"ring-{size}", size, clauses)
         yield f"solve 100000: {'refuted' if size % 2 else 'model'}"
         yield "eliminates 100000: true" if size % 2 else f"counts 100000: {size} 0 0 0"
+
+
+def unit_rows():
+    """Clauses that make one literal after the other true, and the last one false: unit propagation alone refutes them, so that
+    no answer but a refutation is possible, within one entry."""
+    for size in (1, 10, 1000):
+        clauses = [[1]] + [[-place, place + 1] for place in range(1, size)] + [[-size]]
+        yield formula(f"units-{size}", size, clauses)
+        yield "solve 1: refuted"
+        yield "entries 1: 1"
+        yield "entries 100000: 1"
 
 
 def numbers(seed):
@@ -132,6 +144,7 @@ def solver_rows():
     rows = (HERE / "by_hand.text").read_text().splitlines()
     rows += ["", "# Pigeons fit into as many holes, and not into fewer."] + list(pigeon_rows())
     rows += ["", "# Variables in a ring, each unlike the next one. An odd ring has no model."] + list(ring_rows())
+    rows += ["", "# Literals that force one another."] + list(unit_rows())
     rows += ["", "# Clauses of three of twenty variables, decided by their truth table (examples/solver/make.py)."] + list(random_rows())
     return rows
 

@@ -18,6 +18,7 @@ use crate::parameters::{ELIMINATION, ELIMINATION_CLAUSES, SMALL_BUDGET};
 use crate::search::Search;
 use kb_chain::{Clause, Formula, Log, Row};
 use kb_eliminate::{Eliminated, eliminate, restored};
+use kb_log_cut::cut;
 use kb_propagate::{NoMemory, model};
 use kb_rows::Held;
 use std::alloc::Global;
@@ -34,7 +35,7 @@ pub enum Solved {
 }
 
 /// Searches for a model of the formula with at most `budget` derived clauses, which are the entries of the log. Where a clause
-/// is false at level 0 and the log has room, the last entry is the empty clause.
+/// is false at level 0 and the log has room, the last entry is the empty clause, and the others are those that it needs.
 ///
 /// Where the budget is more than a few thousand, a first attempt eliminates variables and lets clauses go, so that its log
 /// isn't fresh. Only where it decides nothing comes a second one that keeps all clauses, which takes longer.
@@ -426,8 +427,18 @@ fn model_of(
     Ok(Some(bits))
 }
 
-/// The refutation by a clause that is false at level 0.
+/// The refutation by a clause that is false at level 0: what is needed of the log that ends with the clause's own chain.
 fn refutation(alloc: Global, search: &Search<'_>, number: u32) -> Result<Log, NoMemory>
+    requires { IsDoomed search.now.base number }
+    ensures refutes { IfOk result (λ log. IsRefutation search.now.base.formula.now.clauses log.entries) }
+    ensures length { IfOk result (λ log. length log.entries ≤ length search.now.base.entries + 1) }
+{
+    let log = whole_refutation(alloc, search, number)?;
+    cut(alloc, search.base.formula, log.entries.as_slice())
+}
+
+/// The whole log of a search, and behind it a chain that resolves all literals of a false clause away at level 0.
+fn whole_refutation(alloc: Global, search: &Search<'_>, number: u32) -> Result<Log, NoMemory>
     requires { IsDoomed search.now.base number }
     ensures refutes { IfOk result (λ log. IsRefutation search.now.base.formula.now.clauses log.entries) }
     ensures length { IfOk result (λ log. length log.entries ≡ length search.now.base.entries + 1) }

@@ -9,16 +9,12 @@ use std::alloc::Global;
 
 /// Appends what a line of text is with the lines of a log behind it.
 pub fn append_log_lines(alloc: Global, log: &str, into: &mut String) -> RowResult<()> {
-    let text = log_text(alloc, log)?;
+    let text = log_text(alloc, b"undecided 2\n", &read_log(alloc, log)?)?;
     append_lines(text.as_str(), into)
 }
 
-fn log_text(alloc: Global, log: &str) -> RowResult<String> {
-    text_behind(alloc, b"undecided 2\n", &read_log(alloc, log)?)
-}
-
 /// The log's lines behind that front.
-fn text_behind(alloc: Global, front: &[u8], log: &Log) -> RowResult<String> {
+pub fn log_text(alloc: Global, front: &[u8], log: &Log) -> RowResult<String> {
     let mut bytes = front.to_vec(alloc)?;
     kept(write_log(alloc, log, &mut bytes))?;
     kept(String::from_utf8(bytes))
@@ -28,7 +24,7 @@ fn text_behind(alloc: Global, front: &[u8], log: &Log) -> RowResult<String> {
 pub fn append_log(alloc: Global, text: &str, into: &mut String) -> RowResult<()> {
     let text = unescaped(alloc, text)?;
     match kb_log_text::read_log(alloc, text.as_bytes()) {
-        Ok(log) => append_lines(text_behind(alloc, b"read\n", &log)?.as_str(), into),
+        Ok(log) => append_lines(log_text(alloc, b"read\n", &log)?.as_str(), into),
         Err(LineRefusal::BadLine(number)) => Ok(write!(into, "line {number}")?),
         Err(LineRefusal::Stopped(_)) => Err(RowStop::NoMemory),
     }

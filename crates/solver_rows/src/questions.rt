@@ -4,7 +4,7 @@ use crate::dimacs_texts::{append_cnf, append_full, append_run, append_said, appe
 use crate::heuristics::{append_intervals, append_levels, append_order, append_ranks};
 use crate::log_lines::{append_log, append_log_lines};
 use crate::searches::{
-    append_eliminate, append_fresh, append_needed, append_refutation, append_resolvent,
+    append_cut, append_eliminate, append_fresh, append_needed, append_refutation, append_resolvent,
     append_search,
 };
 use kb_chain::Formula;
@@ -49,6 +49,7 @@ fn append_of_formula(
         "refutation" => append_refutation(alloc, formula, words, into),
         "fresh" => append_fresh(alloc, formula, words, into),
         "resolvent" => append_resolvent(alloc, formula, words, into),
+        "cut" => append_cut(alloc, formula, words, into),
         "needed" => append_needed(alloc, formula, words, into),
         "eliminate" => append_eliminate(alloc, formula, into),
         "said" => append_said(alloc, formula, words, into),

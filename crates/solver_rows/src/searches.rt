@@ -4,11 +4,13 @@ ghost use Rattle.kb_propagate.specs.Base.{IsReady, Stands};
 
 use crate::assignments::judged_bits;
 use crate::formulas::read_log;
+use crate::log_lines::{append_lines, log_text};
 use kb_chain::{
     Chain, Clause, Formula, Log, ResolveStop, Row, Store, Verdict, check_fresh, check_refutation,
     derive_needed, resolve,
 };
 use kb_eliminate::{Eliminated, EliminationBounds, eliminate, restored};
+use kb_log_cut::cut;
 use kb_propagate::Base;
 use kb_questions::{
     Outcome, append_clause, append_place, judged_open, judged_refutation, read_budget,
@@ -49,6 +51,7 @@ fn append_of_search(
         "restarts" => append_restarts(counts, into),
         "exceeds" => append_exceeds(solved, counts, words, into),
         "eliminates" => append_eliminates(solved, counts, into),
+        "entries" => append_entries(solved, into),
         "front" => append_front(alloc, formula, solved, into),
         _ => Err(RowStop::Malformed),
     }
@@ -96,8 +99,8 @@ fn append_exceeds(
     Ok(write!(into, "{said} {more}")?)
 }
 
-/// Appends whether the refutation has more entries than there were conflicts. Each conflict gives one entry; the others are
-/// resolvents by which the first search eliminated variables. Were it the second one that refutes, the conflicts of both would
+/// Appends whether the refutation has more entries than there were conflicts. Each conflict gives at most one entry; the others
+/// are resolvents by which the first search eliminated variables. Were it the second one that refutes, the conflicts of both would
 /// count.
 fn append_eliminates(solved: &Solved, counts: Counts, into: &mut String) -> RowResult<()> {
     let more = match solved {
@@ -105,6 +108,15 @@ fn append_eliminates(solved: &Solved, counts: Counts, into: &mut String) -> RowR
         Solved::Sat(_) | Solved::Undecided(_) => false,
     };
     Ok(write!(into, "{more}")?)
+}
+
+/// Appends how many entries the refutation has.
+fn append_entries(solved: &Solved, into: &mut String) -> RowResult<()> {
+    let Solved::Unsat(log) = solved else {
+        return Err(RowStop::Malformed);
+    };
+    let entries = log.entries.as_slice().len();
+    Ok(write!(into, "{entries}")?)
 }
 
 /// Appends whether the entries of the refutation before the last one are fresh.
@@ -165,6 +177,18 @@ fn append_verdict(verdict: Verdict, into: &mut String) -> RowResult<()> {
         Verdict::Good => Ok(into.push_str("good")?),
         Verdict::Bad(entry) => Ok(write!(into, "bad {entry}")?),
     }
+}
+
+/// Appends the lines of what the last entry of a log needs of it.
+pub fn append_cut(
+    alloc: Global,
+    formula: &Formula,
+    text: &str,
+    into: &mut String,
+) -> RowResult<()> {
+    let log = read_log(alloc, text)?;
+    let left = kept(cut(alloc, formula, log.entries.as_slice()))?;
+    append_lines(log_text(alloc, b"", &left)?.as_str(), into)
 }
 
 /// Appends the resolvent of the clauses at the first two numbers, with the third one as the pivot.
