@@ -1,5 +1,5 @@
 //! The lists of watches. Under proof: each clause that wasn't let go is in the lists of its two watched literals.
-ghost use Rattle.std.specs.Prelude.{◌≡◌, ℕ, ◌+◌, ◌*◌, ◌<◌, ◌≤◌, true, [], ◌∷◌, ◌++◌, length, take, map, filter, slice_get, slice_set, vec_len, Some, OnOk, IfOk};
+ghost use Rattle.std.specs.Prelude.{◌≡◌, ℕ, ◌+◌, ◌*◌, ◌<◌, ◌≤◌, true, [], ◌∷◌, ◌++◌, length, take, map, filter, slice_get, slice_set, Some, OnOk, IfOk};
 ghost use Rattle.std.specs.List.{remove_range};
 ghost use Rattle.kb_chain.specs.Literal.{place_of};
 ghost use Rattle.kb_propagate.specs.Watches.{at_literal, AreEmpty};
@@ -9,13 +9,17 @@ use crate::NoMemory;
 use crate::clauses::Clauses;
 use crate::watch::Watch;
 use kb_chain::Lit;
+use smallvec::SmallVec;
 use std::alloc::Global;
 use std::marker::Model;
+
+/// How many watches a list keeps with no allocation: as many as most lists of a formula of gates have.
+const INLINE: usize = 4;
 
 /// The watches at one literal.
 #[derive(Drop)]
 pub struct WatchList {
-    inner: Vec<Watch>,
+    inner: SmallVec<Watch, INLINE>,
 }
 
 impl Model for WatchList {
@@ -32,7 +36,7 @@ impl WatchList {
         ensures { result ≡ [] }
     {
         WatchList {
-            inner: Vec::new(alloc),
+            inner: SmallVec::new(alloc),
         }
     }
 
@@ -47,7 +51,7 @@ impl WatchList {
         requires { place < length self.now }
         ensures { slice_get self.now place ≡ Some result }
     {
-        self.inner[place]
+        self.inner.as_slice()[place]
     }
 
     /// Puts a watch in the place of another.
@@ -55,7 +59,7 @@ impl WatchList {
         requires { place < length self.old }
         ensures { self.new ≡ slice_set self.old place watch }
     {
-        self.inner[place] = watch;
+        self.inner.as_mut_slice()[place] = watch;
     }
 
     pub fn push(&mut self, watch: Watch) -> Result<(), NoMemory>
@@ -91,18 +95,26 @@ impl WatchList {
     fn keep_awake(&mut self, clauses: &Clauses)
         ensures { self.new ≡ filter (has_awake_clause clauses.now) self.old }
     {
-        self.inner.retain(|watch| clauses.is_awake(watch.clause));
+        let mut kept = 0;
+        for next in 0..self.len() {
+            let watch = self.at(next);
+            if clauses.is_awake(watch.clause) {
+                self.put(kept, watch);
+                kept += 1;
+            }
+        }
+        self.truncate(kept);
     }
 }
 
 /// Takes the watches from `start` up to `end` out.
-fn cut(watches: &mut Vec<Watch>, start: usize, end: usize)
+fn cut(watches: &mut SmallVec<Watch, INLINE>, start: usize, end: usize)
     requires order { start ≤ end }
-    requires inside { end ≤ vec_len watches.old }
+    requires inside { end ≤ length watches.old.items }
     ensures { watches.new.items ≡ remove_range watches.old.items start end }
 {
     let left = watches.len() - (end - start);
-    watches.copy_within(end.., start);
+    watches.as_mut_slice().copy_within(end.., start);
     watches.truncate(left);
 }
 

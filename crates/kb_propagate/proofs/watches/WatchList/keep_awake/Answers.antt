@@ -1,9 +1,27 @@
-use Rattle.std.proofs.Common.{rules, ◌∙◌, ap, filter}
-use Rattle.std.proofs.lemmas.Fn.{filter_same}
+use Rattle.std.proofs.Common.{◌≡◌, ◌+◌, ◌<◌, ◌∙◌, sym, subst, length, get_or, arith, set}
+use Rattle.std.proofs.lemmas.List.Filters.{FiltersInPlace, FiltersInPlace-more_no, FiltersInPlace-more_set}
 use Rattle.kb_propagate.specs.Forgetting.{has_awake_clause}
+use Rattle.kb_propagate.proofs.Places.{at_get_or}
 use Rattle.kb_propagate.proofs.watches.WatchList.keep_awake.Goals as goal
+use Rattle.kb_propagate.proofs.watches.WatchList.keep_awake.Goals.{then-is_awake, else-is_awake}
 
-pub returns : goal.returns
-returns c =
-    filter_same _ (has_awake_clause c.args.clauses.now) _ (λ x b f' k. search rules) _ _ c.retain.ensures.filtered
-    ∙ ap (filter (has_awake_clause c.args.clauses.now)) c.self.view_is
+pub loop-next-preserved : goal.loop-next-preserved
+loop-next-preserved c =
+    let list = c.loop-next.self in
+    let next = c.loop-next.next in
+    let watch = c.at-watch.result in
+    let test = has_awake_clause c.args.clauses.now in
+    let h = c.loop-next.invariant in
+    let long : length list ≡ length c.args.self.now = h.long in
+    let inside : next < length list = omega (arith, c.loop-next-test.true, c.len-next-end.ensures, long) in
+    let read : watch ≡ get_or list next watch = sym (at_get_or list next watch watch c.at-watch.ensures) in
+    elim c.if-is_awake.branch [
+      | then-is_awake w ↦
+          subst (λ k. FiltersInPlace test c.args.self.now c.if-is_awake.self k (next + 1)) (sym w.kept-is)
+          (subst (λ z. FiltersInPlace test c.args.self.now z (c.loop-next.kept + 1) (next + 1)) (sym (w.self-is ∙ w.put.ensures))
+          (FiltersInPlace-more_set h inside (sym c.is_awake.ensures ∙ w.if-is_awake.true) read))
+      | else-is_awake w ↦
+          subst (λ k. FiltersInPlace test c.args.self.now c.if-is_awake.self k (next + 1)) (sym w.kept-is)
+          (subst (λ z. FiltersInPlace test c.args.self.now z c.loop-next.kept (next + 1)) (sym w.self-is)
+          (FiltersInPlace-more_no h inside (sym c.is_awake.ensures ∙ w.if-is_awake.false) read))
+    ]
