@@ -42,18 +42,6 @@ use std::alloc::{AllocError, AllocFailed, Global};
 
 @STOP@
 
-impl From<kb_terms::NoMemory> for Stop {
-    fn from(_error: kb_terms::NoMemory) -> Stop {
-        Stop
-    }
-}
-
-impl From<kb_blast::NoMemory> for Stop {
-    fn from(_error: kb_blast::NoMemory) -> Stop {
-        Stop
-    }
-}
-
 impl From<OracleStop> for Stop {
     fn from(_error: OracleStop) -> Stop {
         Stop

@@ -38,12 +38,6 @@ use std::alloc::{AllocError, AllocFailed, Global};
 
 @STOP@
 
-impl From<kb_frames::NoMemory> for Stop {
-    fn from(_error: kb_frames::NoMemory) -> Stop {
-        Stop
-    }
-}
-
 /// The words are what there is much of, how much, and how many calls there are.
 fn answer(alloc: Global, words: &[String]) -> Result<Option<String>, Stop> {
     let [shape, size, times] = words else {

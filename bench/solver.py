@@ -27,7 +27,7 @@ import formulas
 
 ROOT = Path(__file__).resolve().parent.parent
 PROGRAM = ROOT / "build" / "kb_dimacs"
-SOURCES = ["kb_rows", "kb_chain", "kb_propagate", "kb_eliminate", "kb_log_cut", "kb_sat", "kb_outside", "kb_dimacs_text", "kb_dimacs"]
+SOURCES = ["kb_rows", "kb_chain", "kb_propagate", "kb_eliminate", "kb_heuristics", "kb_log_cut", "kb_sat", "kb_outside", "kb_dimacs_text", "kb_dimacs"]
 SAMPLE = ROOT / "crates" / "kb_dimacs" / "stdin"
 
 # exit statuses of the SAT competitions

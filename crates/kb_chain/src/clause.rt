@@ -94,11 +94,12 @@ impl Clause {
     }
 }
 
-fn sorted_by_place(alloc: Global, literals: &[Lit]) -> Result<Vec<Lit>, NoMemory>
+// With no allocation where the literals are few.
+fn sorted_by_place(alloc: Global, literals: &[Lit]) -> Result<SmallVec<Lit, INLINE>, NoMemory>
     ensures same { IfOk result (λ sorted. (l : Literal) → has sorted.items l ≡ has literals.now l) }
     ensures rising { IfOk result (λ sorted. IsInPlaceOrder sorted.items) }
 {
-    let mut sorted = literals.to_vec(alloc)?;
+    let mut sorted = SmallVec::from_slice(alloc, literals)?;
     sort_by_place(alloc, sorted.as_mut_slice())?;
     Ok(sorted)
 }

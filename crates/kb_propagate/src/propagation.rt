@@ -16,7 +16,7 @@ use crate::base::second_of;
 use crate::clauses::Clauses;
 use crate::trail::Trail;
 use crate::watch::Watch;
-use crate::watches::{WatchList, Watches, put_watch};
+use crate::watches::{WatchList, Watches, close_gap, put_watch};
 use kb_chain::Lit;
 use std::mem;
 
@@ -115,25 +115,70 @@ fn walk(
     ensures grows { OnOk result (TrailGrows trail.old trail.new) }
     ensures justified { OnOk result ((all : List (List Literal)) → IsJustified all (rows_of clauses.old) trail.old → IsJustified all (rows_of clauses.new) trail.new) }
 {
+    let watches = list.inner.as_mut_slice();
+    let walked = take_up(clauses, lists, trail, falsified, watches)?;
+    list.truncate(walked.kept);
+    Ok(walked.conflict)
+}
+
+/// What comes of a list whose watches were taken up.
+#[derive(Clone, Copy, Drop)]
+struct Walked {
+    /// How many watches stay: they stand in front.
+    kept: usize,
+    /// The number of a clause that is false, where it met one.
+    conflict: Option<u32>,
+}
+
+/// Takes up the watches of a list, as one slice: where the list keeps them is asked once.
+fn take_up(
+    clauses: &mut Clauses,
+    lists: &mut Vec<WatchList>,
+    trail: &mut Trail,
+    falsified: Lit,
+    watches: &mut [Watch],
+) -> Result<Walked, NoMemory>
+    requires place { place_of falsified < 2 * trail.old.vars + 2 }
+    requires falsified { has trail.old.literals (negated falsified) ≡ true }
+    requires watching { IsWatching (rows_of clauses.old) (pairs_of clauses.old) lists.old.items trail.old.vars }
+    requires blocked { all_blocked (rows_of clauses.old) watches.old ≡ true }
+    ensures watching { OnOk result (IsWatching (rows_of clauses.new) (pairs_of clauses.new) lists.new.items trail.new.vars) }
+    ensures blocked { IfOk result (λ walked. all_blocked (rows_of clauses.new) (take walked.kept watches.new) ≡ true) }
+    ensures walked { IfOk result (λ walked. (early : Literal → Bool) → ((l : Literal) → early l ≡ true → has trail.old.literals l ≡ true)
+        → Walks early (has trail.old.literals) (rows_of clauses.old) (pairs_of clauses.old) (with_list lists.old.items falsified []) watches.old falsified
+        → AllListed (with_list lists.new.items falsified (take walked.kept watches.new)) (pairs_of clauses.new)) }
+    ensures quiet { IfOk result (λ walked. IfNone walked.conflict ((early : Literal → Bool) → ((l : Literal) → early l ≡ true → has trail.old.literals l ≡ true)
+        → Walks early (has trail.old.literals) (rows_of clauses.old) (pairs_of clauses.old) (with_list lists.old.items falsified []) watches.old falsified
+        → Quiet (rows_of clauses.new) (pairs_of clauses.new) early (has trail.new.literals))) }
+    ensures conflict { IfOk result (λ walked. IfSome walked.conflict (λ number. IsConflict (rows_of clauses.new) trail.new number × IsAwake (pairs_of clauses.new) number)) }
+    ensures reordered { OnOk result (AreReordered (rows_of clauses.old) (rows_of clauses.new)) }
+    ensures stays { OnOk result (StaysQuiet clauses.old clauses.new (has trail.old.literals)) }
+    ensures grows { OnOk result (TrailGrows trail.old trail.new) }
+    ensures justified { OnOk result ((all : List (List Literal)) → IsJustified all (rows_of clauses.old) trail.old → IsJustified all (rows_of clauses.new) trail.new) }
+{
     let mut kept = 0;
-    for next in 0..list.len() {
-        let watch = list.at(next);
+    for next in 0..watches.len() {
+        let watch = watches[next];
         let number = watch.clause;
         let outcome = examine(clauses, lists, trail, falsified, watch)?;
         match outcome {
             Outcome::Kept(later) => {
-                list.put(kept, later);
+                watches[kept] = later;
                 kept += 1;
             }
             Outcome::Removed => {}
             Outcome::Conflict => {
-                list.cut(kept, next);
-                return Ok(Some(number));
+                return Ok(Walked {
+                    kept: close_gap(watches, kept, next),
+                    conflict: Some(number),
+                });
             }
         }
     }
-    list.truncate(kept);
-    Ok(None)
+    Ok(Walked {
+        kept,
+        conflict: None,
+    })
 }
 
 /// What becomes of a watch that is taken up.

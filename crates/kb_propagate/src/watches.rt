@@ -1,5 +1,5 @@
 //! The lists of watches. Under proof: each clause that wasn't let go is in the lists of its two watched literals.
-ghost use Rattle.std.specs.Prelude.{◌≡◌, ℕ, ◌+◌, ◌*◌, ◌<◌, ◌≤◌, true, [], ◌∷◌, ◌++◌, length, take, map, filter, slice_get, slice_set, vec_len, Some, OnOk, IfOk};
+ghost use Rattle.std.specs.Prelude.{◌≡◌, ℕ, ◌+◌, ◌*◌, ◌<◌, ◌≤◌, true, [], ◌∷◌, ◌++◌, length, take, map, filter, slice_set, OnOk, IfOk};
 ghost use Rattle.std.specs.List.{remove_range};
 ghost use Rattle.kb_chain.specs.Literal.{place_of};
 ghost use Rattle.kb_propagate.specs.Watches.{at_literal, AreEmpty};
@@ -9,13 +9,17 @@ use crate::NoMemory;
 use crate::clauses::Clauses;
 use crate::watch::Watch;
 use kb_chain::Lit;
+use smallvec::SmallVec;
 use std::alloc::Global;
 use std::marker::Model;
+
+/// How many watches a list keeps with no allocation: as many as most lists of a formula of gates have.
+const INLINE: usize = 4;
 
 /// The watches at one literal.
 #[derive(Drop)]
 pub struct WatchList {
-    inner: Vec<Watch>,
+    pub(crate) inner: SmallVec<Watch, INLINE>,
 }
 
 impl Model for WatchList {
@@ -32,30 +36,8 @@ impl WatchList {
         ensures { result ≡ [] }
     {
         WatchList {
-            inner: Vec::new(alloc),
+            inner: SmallVec::new(alloc),
         }
-    }
-
-    pub fn len(&self) -> usize
-        ensures { result ≡ length self.now }
-    {
-        self.inner.len()
-    }
-
-    /// The watch at a place.
-    pub fn at(&self, place: usize) -> Watch
-        requires { place < length self.now }
-        ensures { slice_get self.now place ≡ Some result }
-    {
-        self.inner[place]
-    }
-
-    /// Puts a watch in the place of another.
-    pub fn put(&mut self, place: usize, watch: Watch)
-        requires { place < length self.old }
-        ensures { self.new ≡ slice_set self.old place watch }
-    {
-        self.inner[place] = watch;
     }
 
     pub fn push(&mut self, watch: Watch) -> Result<(), NoMemory>
@@ -78,32 +60,39 @@ impl WatchList {
         self.inner.truncate(kept);
     }
 
-    /// Takes the watches between two places out: from `start` up to `end`, which stays.
-    pub fn cut(&mut self, start: usize, end: usize)
-        requires order { start ≤ end }
-        requires inside { end ≤ length self.old }
-        ensures { self.new ≡ remove_range self.old start end }
-    {
-        cut(&mut self.inner, start, end);
-    }
-
     /// Keeps only the watches of clauses that are awake.
     fn keep_awake(&mut self, clauses: &Clauses)
         ensures { self.new ≡ filter (has_awake_clause clauses.now) self.old }
     {
-        self.inner.retain(|watch| clauses.is_awake(watch.clause));
+        let kept = move_awake(self.inner.as_mut_slice(), clauses);
+        self.truncate(kept);
     }
 }
 
-/// Takes the watches from `start` up to `end` out.
-fn cut(watches: &mut Vec<Watch>, start: usize, end: usize)
+/// Moves the watches of clauses that are awake to the front, and says how many they are.
+fn move_awake(watches: &mut [Watch], clauses: &Clauses) -> usize
+    ensures { take result watches.new ≡ filter (has_awake_clause clauses.now) watches.old }
+{
+    let mut kept = 0;
+    for next in 0..watches.len() {
+        let watch = watches[next];
+        if clauses.is_awake(watch.clause) {
+            watches[kept] = watch;
+            kept += 1;
+        }
+    }
+    kept
+}
+
+/// Moves the watches from `end` on down to `start`, over those between, and says how many are left.
+pub fn close_gap(watches: &mut [Watch], start: usize, end: usize) -> usize
     requires order { start ≤ end }
-    requires inside { end ≤ vec_len watches.old }
-    ensures { watches.new.items ≡ remove_range watches.old.items start end }
+    requires inside { end ≤ length watches.old }
+    ensures { take result watches.new ≡ remove_range watches.old start end }
 {
     let left = watches.len() - (end - start);
     watches.copy_within(end.., start);
-    watches.truncate(left);
+    left
 }
 
 /// The watches by the place of the literal that is watched.

@@ -14,7 +14,9 @@ use Rattle.kb_sat.specs.declared.solver.End.{End}
 use Rattle.kb_sat.specs.declared.solver.Ended.{Ended}
 use Rattle.kb_sat.specs.declared.solver.Progress.{Progress}
 use Rattle.kb_sat.specs.declared.solver.Progress.TheVariants.{Complete, Doomed, Learned}
+use Rattle.kb_chain.specs.declared.log.Chain.{Chain}
 use Rattle.kb_chain.specs.declared.log.Log.{Log}
+use Rattle.kb_log_cut.specs.Cutting.{IsCut}
 use Rattle.kb_sat.specs.declared.solver.Solved.{Solved}
 use Rattle.kb_sat.specs.declared.solver.Solved.TheVariants.{Sat, Unsat, Undecided}
 
@@ -39,6 +41,10 @@ Solves formula budget (Sat bits) = (length bits ≡ formula.vars) × Satisfies (
 Solves formula budget (Unsat log) = IsRefutation formula.clauses log.entries × (length log.entries ≤ budget)
 Solves formula budget (Undecided log) =
     IsFresh formula.clauses log.entries × (length log.entries ≡ budget) × (UnitRefutes formula.clauses → ⊥)
+
+-- what is needed of a log of so many entries, behind the `first` clauses of a formula
+abbrev pub IsCutOf : ℕ → ℕ → List Chain → Type 0
+IsCutOf first count cut = (entries : List Chain) × (length entries ≡ count) × IsCut first entries cut
 
 -- a search of this formula at its start
 abbrev pub BegunIs : Cnf → Bool → Begun → Type 0

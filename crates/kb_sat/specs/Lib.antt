@@ -1,4 +1,3 @@
-pub mod Order
 pub mod Analysis
 pub mod Search
 pub mod Solver

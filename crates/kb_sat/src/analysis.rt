@@ -10,15 +10,15 @@ ghost use Rattle.kb_chain.specs.Propagation.{all_negated};
 ghost use Rattle.kb_chain.specs.Index.{has_number};
 ghost use Rattle.kb_chain.specs.Chains.{derived};
 ghost use Rattle.kb_chain.specs.Needed.{cites};
-ghost use Rattle.kb_propagate.specs.Trail.{level_start, before_level, HasReasons};
+ghost use Rattle.kb_propagate.specs.Trail.{before_level, HasReasons};
 ghost use Rattle.kb_propagate.specs.Store.{IsJustified};
 ghost use Rattle.kb_propagate.specs.Rows.{rows_of};
 ghost use Rattle.kb_propagate.specs.Base.{IsConflict};
 ghost use Rattle.kb_sat.specs.Search.{IsLearned, IsRefuting};
 ghost use Rattle.kb_sat.specs.Analysis.{is_seen, is_pivot, AreFalseBefore, AreMarked, IsClean, MarksOthers, IsLevels, AreCovered, IsReached, IsLastSeen, NoneSeen, ArePut, MayCite, at_position};
 
-use crate::order::ActivityOrder;
 use kb_chain::{Chain, Formula, Lit, Row, Store, derive_needed};
+use kb_heuristics::{ActivityOrder, level_of};
 use kb_propagate::{Clauses, NoMemory, Trail};
 use std::alloc::Global;
 
@@ -423,25 +423,4 @@ fn adds_nothing(
         }
     }
     Some(number)
-}
-
-/// The level of a position above level 0 and below the last level.
-pub(crate) fn level_of(trail: &Trail, position: usize) -> usize
-    requires above { 0 < length trail.now.starts }
-    requires below { position < level_start trail.now.starts (length trail.now.starts - 1) }
-    ensures below { position < level_start trail.now.starts result }
-    ensures above { 0 < result → level_start trail.now.starts (result - 1) ≤ position }
-    ensures inside { result < length trail.now.starts }
-{
-    let mut low = 0;
-    let mut high = trail.level() - 1;
-    while low < high {
-        let middle = low + (high - low) / 2;
-        if position < trail.start(middle) {
-            high = middle;
-        } else {
-            low = middle + 1;
-        }
-    }
-    low
 }

@@ -5,18 +5,10 @@
 mod analysis;
 mod counts;
 mod forgetting;
-mod order;
-mod pace;
 mod parameters;
-mod pick;
-mod ranks;
 mod search;
 mod solver;
 
 pub use counts::Counts;
 pub use kb_propagate::NoMemory;
-// What the search is free to do: for programs that show it.
-pub use order::ActivityOrder;
-pub use pace::Crowding;
-pub use ranks::{Rank, Ranks, levels_of};
 pub use solver::{Solved, solve, solve_counted, solve_from};

@@ -10,11 +10,9 @@ ghost use Rattle.kb_sat.specs.Solver.{Equipped, IsEquipped, GoesOn, Keeps, StepI
 
 use crate::analysis::{Marks, analyse};
 use crate::counts::Counts;
-use crate::order::ActivityOrder;
 use crate::parameters::FIRST_PHASE;
-use crate::pick::pick;
-use crate::ranks::{Ranks, levels_of};
 use kb_chain::{Formula, Lit};
+use kb_heuristics::{ActivityOrder, Ranks, levels_of, pick};
 use kb_propagate::{Base, NoMemory, second_of, watch_pair};
 use kb_rows::Held;
 use std::alloc::Global;

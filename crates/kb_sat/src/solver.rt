@@ -7,17 +7,16 @@ ghost use Rattle.kb_chain.specs.Cnf.{Cnf};
 ghost use Rattle.kb_chain.specs.Propagation.{IsFresh, UnitRefutes};
 ghost use Rattle.kb_propagate.specs.Base.{Stands, IsReady, IsComplete, IsDoomed};
 ghost use Rattle.kb_sat.specs.Solver.{Equipped, GoesOn};
-ghost use Rattle.kb_sat.specs.Answer.{Solves, BegunIs, EndedIs, at_end, KeepsAll, IfSat, IfUnsat, IfUndecided, IsOpenOnly, ProgressIs};
+ghost use Rattle.kb_sat.specs.Answer.{Solves, BegunIs, EndedIs, at_end, KeepsAll, IfSat, IfUnsat, IfUndecided, IsCutOf, IsOpenOnly, ProgressIs};
 
 use crate::analysis::refute;
 use crate::counts::Counts;
 use crate::forgetting::forget;
-use crate::order::ActivityOrder;
-use crate::pace::{Crowding, Pace};
 use crate::parameters::{ELIMINATION, ELIMINATION_CLAUSES, SMALL_BUDGET};
 use crate::search::Search;
 use kb_chain::{Clause, Formula, Log, Row};
 use kb_eliminate::{Eliminated, eliminate, restored};
+use kb_heuristics::{ActivityOrder, Crowding, Pace};
 use kb_log_cut::cut;
 use kb_propagate::{NoMemory, model};
 use kb_rows::Held;
@@ -432,6 +431,7 @@ fn refutation(alloc: Global, search: &Search<'_>, number: u32) -> Result<Log, No
     requires { IsDoomed search.now.base number }
     ensures refutes { IfOk result (λ log. IsRefutation search.now.base.formula.now.clauses log.entries) }
     ensures length { IfOk result (λ log. length log.entries ≤ length search.now.base.entries + 1) }
+    ensures cut { IfOk result (λ log. IsCutOf (length search.now.base.formula.now.clauses) (length search.now.base.entries + 1) log.entries) }
 {
     let log = whole_refutation(alloc, search, number)?;
     cut(alloc, search.base.formula, log.entries.as_slice())

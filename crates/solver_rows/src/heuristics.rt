@@ -5,8 +5,8 @@ ghost use Rattle.kb_chain.specs.Propagation.{all_negated};
 
 use crate::formulas::read_chain;
 use kb_chain::Lit;
+use kb_heuristics::{ActivityOrder, Crowding, Ranks, levels_of};
 use kb_propagate::Trail;
-use kb_sat::{ActivityOrder, Crowding, Ranks, levels_of};
 use kb_table::{RowResult, RowStop, kept, read_int, read_number, read_numbers};
 use std::alloc::Global;
 

@@ -1,151 +1,21 @@
-use Rattle.std.proofs.Common.{◌≡◌, ◌+◌, ◌*◌, ◌<◌, ◌≤◌, ◌∙◌, ap, sym, subst, length, length-set, set, take, drop, List, [], ◌∷◌, ◌++◌, Bool, true, arith}
-use Rattle.std.proofs.lemmas.List.{drop_all}
-use Rattle.kb_chain.specs.Literal.{Literal, has, negated, place_of}
+use Rattle.std.proofs.Common.{◌≡◌, ◌∙◌, ◌++◌, ap, sym, subst, length, take, drop, [], arith}
+use Rattle.std.proofs.Math.Seq.{take-append_seam}
+use Rattle.kb_chain.specs.Literal.{has}
 use Rattle.kb_propagate.specs.Rows.{rows_of}
-use Rattle.kb_propagate.specs.Watches.{Pair, pairs_of, IsAwake, Walks, AllListed, all_blocked, is_blocked, with_list}
-use Rattle.kb_propagate.specs.Walking.{IfGoesOn, kept_with}
-use Rattle.kb_propagate.specs.Base.{IsConflict}
-use Rattle.kb_propagate.specs.declared.propagation.Outcome.{Outcome}
-use Rattle.kb_propagate.specs.declared.watch.Watch.{Watch}
-use Rattle.kb_propagate.proofs.JustifyLaws.{TrailGrows-part, TrailGrows-trans}
-use Rattle.kb_propagate.proofs.WatchLaws.{AllListed-back, StaysQuiet-trans, Walks-end, Walks-next, Walks-written, blocked_front, blocked_cut, blocked_at, blocked_set, kept_at, at_conflict}
-use Rattle.kb_propagate.proofs.ReorderLaws.{AreReordered-trans, blocked_reordered}
+use Rattle.kb_propagate.specs.Watches.{pairs_of, Walks, AllListed, with_list}
 use Rattle.kb_propagate.proofs.propagation.walk.Goals as goal
-use Rattle.kb_propagate.proofs.propagation.walk.Goals.{After-truncate, in-Kept, in-Removed}
 
--- where the walk goes on behind a watch, unless its clause is false
-abbrev Follows : (Literal → Bool) → (Literal → Bool) → List (List Literal) → List (List Literal) → List Pair → List Pair → List (List Watch) → List (List Watch) → Watch → Literal → Outcome
-    → Type 0
-Follows old new rows rows' pairs pairs' lists lists' w f outcome = IfGoesOn ((early : Literal → Bool) (kept others : List Watch) → ((l : Literal) → early l ≡ true → old l ≡ true)
-    → Walks early old rows pairs (with_list lists f kept) (w ∷ others) f → Walks early new rows' pairs' (with_list lists' f (kept_with kept outcome)) others f) outcome
-
-pub examine-requires-clause-watch : goal.examine-requires-clause-watch
-examine-requires-clause-watch c =
-    blocked_at (rows_of c.loop-next.clauses) c.loop-next.list c.loop-next.next c.at-watch.result c.loop-next.invariant.blocked c.at-watch.ensures
-
-pub loop-next-preserved : goal.loop-next-preserved
-loop-next-preserved c =
-    let xs = c.loop-next.list in
-    let next = c.loop-next.next in
-    let kept = c.loop-next.kept in
-    let w = c.at-watch.result in
-    let grows = c.in_ok-outcome.ensures.grows in
-    let part = TrailGrows-part c.loop-next.trail c.examine.new.trail grows in
-    let behind : kept ≤ next = c.loop-next.invariant.behind in
-    let bound : next < c.len-next-end.result = c.loop-next-test.true in
-    let whole : c.len-next-end.result ≡ length c.args.list.now = c.len-next-end.ensures in
-    let size : length xs ≡ length c.args.list.now = c.loop-next.invariant.size in
-    let inside : next < length xs = omega (arith, bound, whole, size) in
-    elim c.match-outcome.branch [
-      | in-Kept v ↦
-          (let later = v.in-Kept.later in
-          let written : c.match-outcome.list ≡ set xs kept later = v.list-is ∙ v.put.ensures in
-          let count : c.match-outcome.kept ≡ kept + 1 = v.kept-is in
-          record {
-            watching = c.in_ok-outcome.ensures.watching;
-            size = ap length written ∙ (length-set xs kept later ∙ c.loop-next.invariant.size);
-            behind = omega (arith, behind, count);
-            blocked = ap (all_blocked (rows_of c.examine.new.clauses)) written
-                ∙ blocked_set (rows_of c.examine.new.clauses) xs kept later
-                (blocked_reordered (rows_of c.loop-next.clauses) (rows_of c.examine.new.clauses) xs c.in_ok-outcome.ensures.reordered c.loop-next.invariant.blocked)
-                (kept_at c.in_ok-outcome.outcome later (λ v. is_blocked (rows_of c.examine.new.clauses) v ≡ true) v.in-Kept.is c.in_ok-outcome.ensures.blocked);
-            place = subst (λ n. place_of c.args.falsified < 2 * n + 2) (sym grows.vars) c.loop-next.invariant.place;
-            falsified = part (negated c.args.falsified) c.loop-next.invariant.falsified;
-            part = λ m e. part m (c.loop-next.invariant.part m e);
-            walks = λ early earlier h.
-                subst (λ n. Walks early (has c.examine.new.trail.literals) (rows_of c.examine.new.clauses) (pairs_of c.examine.new.clauses) (with_list c.examine.new.lists.items c.args.falsified (take n c.match-outcome.list)) (drop (next + 1) c.match-outcome.list) c.args.falsified) (sym count)
-                (subst (λ z. Walks early (has c.examine.new.trail.literals) (rows_of c.examine.new.clauses) (pairs_of c.examine.new.clauses) (with_list c.examine.new.lists.items c.args.falsified (take (kept + 1) z)) (drop (next + 1) z) c.args.falsified)
-                (sym written)
-                (Walks-written early (has c.examine.new.trail.literals) (rows_of c.examine.new.clauses) (pairs_of c.examine.new.clauses) c.examine.new.lists.items xs kept next later c.args.falsified behind inside
-                ((subst (λ z. Follows (has c.loop-next.trail.literals) (has c.examine.new.trail.literals) (rows_of c.loop-next.clauses) (rows_of c.examine.new.clauses) (pairs_of c.loop-next.clauses) (pairs_of c.examine.new.clauses) c.loop-next.lists.items c.examine.new.lists.items w c.args.falsified z) v.in-Kept.is c.in_ok-outcome.ensures.walked) early (take kept xs) (drop (next + 1) xs) (λ l e. c.loop-next.invariant.part l (earlier l e))
-                (Walks-next early (has c.loop-next.trail.literals) (rows_of c.loop-next.clauses) (pairs_of c.loop-next.clauses) (with_list c.loop-next.lists.items c.args.falsified (take kept xs)) xs next w c.args.falsified
-                c.at-watch.ensures (c.loop-next.invariant.walks early earlier h)))));
-            reordered = AreReordered-trans (rows_of c.args.clauses.now) (rows_of c.loop-next.clauses) (rows_of c.examine.new.clauses) c.loop-next.invariant.reordered c.in_ok-outcome.ensures.reordered;
-            stays = StaysQuiet-trans c.args.clauses.now c.loop-next.clauses c.examine.new.clauses (has c.args.trail.now.literals) (has c.loop-next.trail.literals)
-                c.loop-next.invariant.part c.loop-next.invariant.stays c.in_ok-outcome.ensures.stays;
-            grows = TrailGrows-trans c.args.trail.now c.loop-next.trail c.examine.new.trail c.loop-next.invariant.grows grows;
-            justified = λ all j. c.in_ok-outcome.ensures.justified all (c.loop-next.invariant.justified all j);
-          })
-      | in-Removed v ↦
-          (let written : c.match-outcome.list ≡ xs = v.list-is in
-          let count : c.match-outcome.kept ≡ kept = v.kept-is in
-          record {
-            watching = c.in_ok-outcome.ensures.watching;
-            size = ap length written ∙ c.loop-next.invariant.size;
-            behind = omega (arith, behind, count);
-            blocked = ap (all_blocked (rows_of c.examine.new.clauses)) written ∙ blocked_reordered (rows_of c.loop-next.clauses) (rows_of c.examine.new.clauses) xs c.in_ok-outcome.ensures.reordered c.loop-next.invariant.blocked;
-            place = subst (λ n. place_of c.args.falsified < 2 * n + 2) (sym grows.vars) c.loop-next.invariant.place;
-            falsified = part (negated c.args.falsified) c.loop-next.invariant.falsified;
-            part = λ m e. part m (c.loop-next.invariant.part m e);
-            walks = λ early earlier h.
-                subst (λ n. Walks early (has c.examine.new.trail.literals) (rows_of c.examine.new.clauses) (pairs_of c.examine.new.clauses) (with_list c.examine.new.lists.items c.args.falsified (take n c.match-outcome.list)) (drop (next + 1) c.match-outcome.list) c.args.falsified) (sym count)
-                (subst (λ z. Walks early (has c.examine.new.trail.literals) (rows_of c.examine.new.clauses) (pairs_of c.examine.new.clauses) (with_list c.examine.new.lists.items c.args.falsified (take kept z)) (drop (next + 1) z) c.args.falsified) (sym written)
-                ((subst (λ z. Follows (has c.loop-next.trail.literals) (has c.examine.new.trail.literals) (rows_of c.loop-next.clauses) (rows_of c.examine.new.clauses) (pairs_of c.loop-next.clauses) (pairs_of c.examine.new.clauses) c.loop-next.lists.items c.examine.new.lists.items w c.args.falsified z) v.in-Removed.is c.in_ok-outcome.ensures.walked) early (take kept xs) (drop (next + 1) xs) (λ l e. c.loop-next.invariant.part l (earlier l e))
-                (Walks-next early (has c.loop-next.trail.literals) (rows_of c.loop-next.clauses) (pairs_of c.loop-next.clauses) (with_list c.loop-next.lists.items c.args.falsified (take kept xs)) xs next w c.args.falsified
-                c.at-watch.ensures (c.loop-next.invariant.walks early earlier h))));
-            reordered = AreReordered-trans (rows_of c.args.clauses.now) (rows_of c.loop-next.clauses) (rows_of c.examine.new.clauses) c.loop-next.invariant.reordered c.in_ok-outcome.ensures.reordered;
-            stays = StaysQuiet-trans c.args.clauses.now c.loop-next.clauses c.examine.new.clauses (has c.args.trail.now.literals) (has c.loop-next.trail.literals)
-                c.loop-next.invariant.part c.loop-next.invariant.stays c.in_ok-outcome.ensures.stays;
-            grows = TrailGrows-trans c.args.trail.now c.loop-next.trail c.examine.new.trail c.loop-next.invariant.grows grows;
-            justified = λ all j. c.in_ok-outcome.ensures.justified all (c.loop-next.invariant.justified all j);
-          })
-    ]
-
-pub returns-in-Conflict-clause-blocked : goal.returns-in-Conflict-clause-blocked
-returns-in-Conflict-clause-blocked c =
-    ap (all_blocked (rows_of c.examine.new.clauses)) c.cut.ensures
-    ∙ blocked_cut (rows_of c.examine.new.clauses) c.loop-next.list c.loop-next.kept c.loop-next.next
-    (blocked_reordered (rows_of c.loop-next.clauses) (rows_of c.examine.new.clauses) c.loop-next.list c.in_ok-outcome.ensures.reordered c.loop-next.invariant.blocked)
-
--- the table and the list as a conflict leaves them
-pub returns-in-Conflict-clause-walked : goal.returns-in-Conflict-clause-walked
-returns-in-Conflict-clause-walked c early part h =
-    let same = at_conflict c.in_ok-outcome.outcome ((c.examine.new.clauses ≡ c.loop-next.clauses) × (c.examine.new.lists.items ≡ c.loop-next.lists.items) × (c.examine.new.trail ≡ c.loop-next.trail)) c.in-Conflict.is
-    c.in_ok-outcome.ensures.unchanged in
-    let xs = c.loop-next.list in
-    let f = c.args.falsified in
-    let place : place_of f < length c.loop-next.lists.items = subst (λ n. place_of f < n) (sym c.loop-next.invariant.watching.places) c.loop-next.invariant.place in
-    subst (λ z. AllListed (with_list c.examine.new.lists.items f z) (pairs_of c.examine.new.clauses)) (sym c.cut.ensures)
-    (subst (λ z. AllListed (with_list z f (take c.loop-next.kept xs ++ drop c.loop-next.next xs)) (pairs_of c.examine.new.clauses)) (sym same.1)
-    (subst (λ z. AllListed (with_list c.loop-next.lists.items f (take c.loop-next.kept xs ++ drop c.loop-next.next xs)) (pairs_of z)) (sym same.0)
-    (AllListed-back early (has c.loop-next.trail.literals) (rows_of c.loop-next.clauses) (pairs_of c.loop-next.clauses) c.loop-next.lists.items (take c.loop-next.kept xs) (drop c.loop-next.next xs) f
-    (c.loop-next.invariant.walks early part h) place)))
-
-pub returns-in-Conflict-clause-conflict : goal.returns-in-Conflict-clause-conflict
-returns-in-Conflict-clause-conflict c =
-    at_conflict c.in_ok-outcome.outcome (IsConflict (rows_of c.examine.new.clauses) c.examine.new.trail c.at-watch.result.clause × IsAwake (pairs_of c.examine.new.clauses) c.at-watch.result.clause) c.in-Conflict.is c.in_ok-outcome.ensures.conflict
-
-pub returns-in-Conflict-clause-reordered : goal.returns-in-Conflict-clause-reordered
-returns-in-Conflict-clause-reordered c =
-    AreReordered-trans (rows_of c.args.clauses.now) (rows_of c.loop-next.clauses) (rows_of c.examine.new.clauses) c.loop-next.invariant.reordered c.in_ok-outcome.ensures.reordered
-
-pub returns-in-Conflict-clause-stays : goal.returns-in-Conflict-clause-stays
-returns-in-Conflict-clause-stays c =
-    StaysQuiet-trans c.args.clauses.now c.loop-next.clauses c.examine.new.clauses (has c.args.trail.now.literals) (has c.loop-next.trail.literals)
-    c.loop-next.invariant.part c.loop-next.invariant.stays c.in_ok-outcome.ensures.stays
-
-pub returns-clause-blocked : goal.returns-clause-blocked
-returns-clause-blocked c =
-    ap (all_blocked (rows_of c.loop-next.clauses)) c.truncate.ensures ∙ blocked_front (rows_of c.loop-next.clauses) c.loop-next.list c.loop-next.kept c.loop-next.invariant.blocked
-
--- nothing is left to be taken up
-ended : (c : After-truncate) → drop c.loop-next.next c.loop-next.list ≡ []
-ended c = drop_all c.loop-next.next c.loop-next.list (omega (arith, c.loop-next-test.false, c.len-next-end.ensures, c.loop-next.invariant.size))
-
-walked : (c : After-truncate) (early : Literal → Bool) → ((m : Literal) → early m ≡ true → has c.args.trail.now.literals m ≡ true)
-    → Walks early (has c.args.trail.now.literals) (rows_of c.args.clauses.now) (pairs_of c.args.clauses.now) (with_list c.args.lists.now.items c.args.falsified []) c.args.list.now c.args.falsified
-    → Walks early (has c.loop-next.trail.literals) (rows_of c.loop-next.clauses) (pairs_of c.loop-next.clauses) (with_list c.loop-next.lists.items c.args.falsified (take c.loop-next.kept c.loop-next.list)) [] c.args.falsified
-walked c early part h =
-    subst (λ z. Walks early (has c.loop-next.trail.literals) (rows_of c.loop-next.clauses) (pairs_of c.loop-next.clauses) (with_list c.loop-next.lists.items c.args.falsified (take c.loop-next.kept c.loop-next.list)) z c.args.falsified)
-    (ended c) (c.loop-next.invariant.walks early part h)
-
+-- the list holds what the slice holds, as far as it stays
 pub returns-clause-walked : goal.returns-clause-walked
 returns-clause-walked c early part h =
-    let front = with_list c.loop-next.lists.items c.args.falsified (take c.loop-next.kept c.loop-next.list) in
-    subst (λ z. AllListed (with_list c.loop-next.lists.items c.args.falsified z) (pairs_of c.loop-next.clauses)) (sym c.truncate.ensures)
-    (Walks-end early (has c.loop-next.trail.literals) (rows_of c.loop-next.clauses) (pairs_of c.loop-next.clauses) front c.args.falsified (walked (goal.at.returns-clause-walked c).After-truncate early part h)).0
-
-pub returns-clause-quiet : goal.returns-clause-quiet
-returns-clause-quiet c early part h =
-    let front = with_list c.loop-next.lists.items c.args.falsified (take c.loop-next.kept c.loop-next.list) in
-    (Walks-end early (has c.loop-next.trail.literals) (rows_of c.loop-next.clauses) (pairs_of c.loop-next.clauses) front c.args.falsified (walked (goal.at.returns-clause-quiet c).After-truncate early part h)).1
+    let old = c.list.inside.inner.items in
+    let new = c.take_up.new.watches in
+    let f = c.args.falsified in
+    let lent : c.as_mut_slice-watches.result.now ≡ old = c.as_mut_slice-watches.ensures.value in
+    let size : length old ≡ length new = omega (arith, c.take_up.auto.watches, ap length lent) in
+    let whole : take (length old) (new ++ drop (length new) old) ≡ new = ap (λ n. take n (new ++ drop (length new) old)) size ∙ take-append_seam new (drop (length new) old) in
+    let left : c.truncate.new.self ≡ take c.in_ok-walked.walked.kept new = c.truncate.ensures ∙ ap (take c.in_ok-walked.walked.kept) whole in
+    subst (λ z. AllListed (with_list c.take_up.new.lists.items f z) (pairs_of c.take_up.new.clauses)) (sym left)
+    (c.in_ok-walked.ensures.walked early part
+    (subst (λ z. Walks early (has c.args.trail.now.literals) (rows_of c.args.clauses.now) (pairs_of c.args.clauses.now) (with_list c.args.lists.now.items f []) z f)
+    (sym (lent ∙ c.list.view_is)) h))
