@@ -15,6 +15,8 @@ mod slots;
 
 pub use kb_rows::Row;
 pub use kinds::LeafKind;
+pub use naming::NamedWorld;
 pub use ranges::tell_report;
 pub use report::{Report, report_text, write_kinds};
+pub use slots::write_field;
 pub use std::alloc::AllocError as NoMemory;

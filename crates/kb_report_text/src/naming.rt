@@ -15,7 +15,7 @@ use std::marker::Model;
 /// A world, with the names that several fields of one class have: so a field is written in a time that does not depend on how
 /// many its class declares. Contracts see the world.
 #[derive(Drop)]
-pub(crate) struct NamedWorld<'a> {
+pub struct NamedWorld<'a> {
     world: &'a World,
     // Of each class the names that more than one of its fields have.
     shared: Vec<IndexSet<Vec<u8>>>,
@@ -34,7 +34,7 @@ impl<'a> Model for NamedWorld<'a> {
 
 impl<'a> NamedWorld<'a> {
     /// The world with its table, made in a time that grows with the fields that its classes declare.
-    pub(crate) fn of(alloc: Global, world: &'a World) -> Result<NamedWorld<'a>, NoMemory>
+    pub fn of(alloc: Global, world: &'a World) -> Result<NamedWorld<'a>, NoMemory>
         ensures { IfOk result (λ named. named ≡ world.now) }
     {
         let shared = shared_in(alloc, world)?;
@@ -42,14 +42,14 @@ impl<'a> NamedWorld<'a> {
     }
 
     /// The world alone.
-    pub(crate) fn world(&self) -> &World
+    pub fn world(&self) -> &World
         ensures { result.now ≡ self.now }
     {
         self.world
     }
 
     /// Whether another field of the class that declares this one has its name.
-    pub(crate) fn has_namesake(&self, field: &FieldSlot) -> bool
+    pub fn has_namesake(&self, field: &FieldSlot) -> bool
         ensures { result ≡ has_namesake self.now field.now }
     {
         match self.shared.get(field.class.0 as usize) {

@@ -23,8 +23,13 @@ fn write_class_name(text: &mut Text, world: &NamedWorld<'_>, class: ClassId) -> 
     }
 }
 
+/// A field, as a slot names it.
 #[tactic(auto, unfolding(crate::specs::Slots::field_text))]
-fn write_field(text: &mut Text, world: &NamedWorld<'_>, field: &FieldSlot) -> Result<(), NoMemory>
+pub fn write_field(
+    text: &mut Text,
+    world: &NamedWorld<'_>,
+    field: &FieldSlot,
+) -> Result<(), NoMemory>
     ensures { OnOk result (text.new ≡ text.old ++ field_text world.now field.now) }
 {
     write_class_name(text, world, field.class)?;

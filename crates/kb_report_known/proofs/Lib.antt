@@ -1,0 +1,10 @@
+mod ChainLaws
+mod CountLaws
+mod FieldLaws
+mod FindingLaws
+mod KnowingLaws
+mod KnownLaws
+mod ListLaws
+mod TableLaws
+mod Walking
+mod WayLaws
