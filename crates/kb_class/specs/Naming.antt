@@ -23,9 +23,9 @@ exact_of (types.Array component) = Some (exact.Array (arrays_of component.dims c
 exact_of _ = None
 
 -- the descriptor of a field or method holds the type
-abbrev pub Holds : MemberKind → JType → Type 0
-Holds (kinds.Field type) held = held ≡ type
-Holds (kinds.Method kind) held = Has kind.params held ⊎ (kind.result ≡ Some held)
+abbrev pub HoldsType : MemberKind → JType → Type 0
+HoldsType (kinds.Field type) held = held ≡ type
+HoldsType (kinds.Method kind) held = Has kind.params held ⊎ (kind.result ≡ Some held)
 
 -- a descriptor of the class: that of a field, of a method or of a NameAndType entry
 pub data HasKind (class : Class) (kind : MemberKind) : Type 0 where
@@ -37,4 +37,4 @@ pub data HasKind (class : Class) (kind : MemberKind) : Type 0 where
 abbrev pub Names : Class → ExactType → Type 0
 Names class type =
     Has class.entries (TypeEntry type)
-    ⊎ ((kind : MemberKind) × (held : JType) × HasKind class kind × Holds kind held × (exact_of held ≡ Some type))
+    ⊎ ((kind : MemberKind) × (held : JType) × HasKind class kind × HoldsType kind held × (exact_of held ≡ Some type))

@@ -14,7 +14,7 @@ use Rattle.kb_names.specs.declared.types.MethodType.{MethodType}
 use Rattle.kb_class.specs.declared.members.MemberKind.{MemberKind}
 use Rattle.kb_class.specs.declared.members.MemberKind.TheVariants as kinds
 use Rattle.kb_class.specs.Class.{Class, TypeEntry}
-use Rattle.kb_class.specs.Naming.{Has, HasKind, Holds, Names, exact_of}
+use Rattle.kb_class.specs.Naming.{Has, HasKind, HoldsType, Names, exact_of}
 use Rattle.kb_classes.specs.Mentions.{AddsTexts, AnyOf, exact_text, IsTextOf, IsTextHeld, IsTextOfMethod, IsTextOfKind, IsTextNamed, IsTextGiven}
 use Rattle.kb_classes.proofs.LiteralLaws.{adds_one, adds_none, adds_same, adds_both, any_has}
 use Rattle.kb_classes.proofs.UniverseTexts.{part_text_is}
@@ -46,7 +46,7 @@ held_object before after held (inr h) pushed = subst (λ (of : JType). AddsTexts
 
 pub kind_field : (before after : List (List ℕ)) (found : Option MemberKind) (type : JType) → found ≡ Some (kinds.Field type) → AddsTexts before after (IsTextHeld type) → AddsTexts before after (IsTextOfKind found)
 kind_field before after found type e adds = adds_same before after (IsTextHeld type) (IsTextOfKind found) (λ t. (λ h. (kinds.Field type, type, e, refl, h), λ h. back t h.0 h.1 (sym e ∙ h.2) h.3 h.4)) adds where
-  back : (t : List ℕ) (kind : MemberKind) (held : JType) → Some (kinds.Field type) ≡ Some kind → Holds kind held → IsTextHeld held t → IsTextHeld type t
+  back : (t : List ℕ) (kind : MemberKind) (held : JType) → Some (kinds.Field type) ≡ Some kind → HoldsType kind held → IsTextHeld held t → IsTextHeld type t
   back t (kinds.Field of) held is holds h = (let same : of ≡ type = cc in subst (λ (j : JType). IsTextHeld j t) (holds ∙ same) h)
   back t (kinds.Method of) held is holds h = absurd cc
 
@@ -56,13 +56,13 @@ kind_method before after found method e adds = adds_same before after (IsTextOfM
   there t (inl any) = (let h : (held : JType) × Has method.params held × IsTextHeld held t = (any_has IsTextHeld method.params t).0 any in (kinds.Method method, h.0, e, inl h.1, h.2))
   there t (inr h) = (kinds.Method method, h.0, e, inr h.1, h.2)
 
-  whole : (t : List ℕ) (held : JType) → Holds (kinds.Method method) held → IsTextHeld held t → IsTextOfMethod method t
+  whole : (t : List ℕ) (held : JType) → HoldsType (kinds.Method method) held → IsTextHeld held t → IsTextOfMethod method t
   whole t held (inl has) h = inl ((any_has IsTextHeld method.params t).1 (held, has, h))
   whole t held (inr is) h = inr (held, is, h)
 
-  back : (t : List ℕ) (kind : MemberKind) (held : JType) → Some (kinds.Method method) ≡ Some kind → Holds kind held → IsTextHeld held t → IsTextOfMethod method t
+  back : (t : List ℕ) (kind : MemberKind) (held : JType) → Some (kinds.Method method) ≡ Some kind → HoldsType kind held → IsTextHeld held t → IsTextOfMethod method t
   back t (kinds.Field of) held is holds h = absurd cc
-  back t (kinds.Method of) held is holds h = (let same : of ≡ method = cc in whole t held (subst (λ (m : MethodType). Holds (kinds.Method m) held) same holds) h)
+  back t (kinds.Method of) held is holds h = (let same : of ≡ method = cc in whole t held (subst (λ (m : MethodType). HoldsType (kinds.Method m) held) same holds) h)
 
 pub kind_none : (before : List (List ℕ)) (found : Option MemberKind) → found ≡ None → AddsTexts before before (IsTextOfKind found)
 kind_none before found e = adds_none before (IsTextOfKind found) (λ t h. (let is : None ≡ Some h.0 = sym e ∙ h.2 in absurd cc))

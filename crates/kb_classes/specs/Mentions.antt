@@ -10,7 +10,7 @@ use Rattle.kb_names.specs.declared.types.ExactType.TheVariants as exact
 use Rattle.kb_names.specs.declared.types.MethodType.{MethodType}
 use Rattle.kb_class.specs.declared.members.MemberKind.{MemberKind}
 use Rattle.kb_class.specs.Class.{Class, TextEntry}
-use Rattle.kb_class.specs.Naming.{Has, Holds, Names, exact_of}
+use Rattle.kb_class.specs.Naming.{Has, HoldsType, Names, exact_of}
 use Rattle.kb_classes.specs.World.{literal_in}
 use Rattle.kb_classes.specs.Subtypes.{shape_of_exact}
 use Rattle.kb_classes.specs.Universe.{is_given, is_concrete, exact_class, IsElement}
@@ -52,7 +52,7 @@ IsTextOfMethod kind text = AnyOf IsTextHeld kind.params text ⊎ ((held : JType)
 
 -- that of one that the descriptor holds, if there is one
 abbrev pub IsTextOfKind : Option MemberKind → List ℕ → Type 0
-IsTextOfKind found text = (kind : MemberKind) × (held : JType) × (found ≡ Some kind) × Holds kind held × IsTextHeld held text
+IsTextOfKind found text = (kind : MemberKind) × (held : JType) × (found ≡ Some kind) × HoldsType kind held × IsTextHeld held text
 
 -- that of one that the class names
 abbrev pub IsTextNamed : Class → List ℕ → Type 0

@@ -12,7 +12,7 @@ use Rattle.kb_heap.specs.declared.heap.Heap.{Heap}
 use Rattle.kb_heap.specs.declared.heap.Input.{Input}
 use Rattle.kb_heap.specs.Heap.{object_at, value_at}
 use Rattle.kb_classes.proofs.Places.{get_kept, get_pushed}
-use Rattle.kb_semantics.specs.Past.{Holds as HoldsObject, AreLinked, BeginsAtArgument, IsPastK, IsPastArray}
+use Rattle.kb_semantics.specs.Past.{Holds, AreLinked, BeginsAtArgument, IsPastK, IsPastArray}
 use Rattle.kb_picture.specs.declared.picture.Origin.{Origin}
 use Rattle.kb_picture.specs.declared.picture.Origin.TheVariants.{Arg, Field, Element}
 use Rattle.kb_picture.specs.declared.picture.Seen.{Seen}
@@ -34,11 +34,11 @@ use Rattle.kb_picture.proofs.TableLaws.{AreBelow, no_place_at}
 
 -- ---- chains that grow
 
-linked_more : (heap : Heap) (from : ℕ) (xs : List ℕ) (a b : ℕ) → AreLinked heap from (xs ++ a ∷ []) → HoldsObject heap a b → AreLinked heap from ((xs ++ a ∷ []) ++ b ∷ [])
+linked_more : (heap : Heap) (from : ℕ) (xs : List ℕ) (a b : ℕ) → AreLinked heap from (xs ++ a ∷ []) → Holds heap a b → AreLinked heap from ((xs ++ a ∷ []) ++ b ∷ [])
 linked_more heap from [] a b linked holds = (linked.0, (holds, tt))
 linked_more heap from (x ∷ xs) a b linked holds = (linked.0, linked_more heap x xs a b linked.1 holds)
 
-begins_more : (input : Input) (xs : List ℕ) (a b : ℕ) → BeginsAtArgument input (xs ++ a ∷ []) → HoldsObject input.heap a b → BeginsAtArgument input ((xs ++ a ∷ []) ++ b ∷ [])
+begins_more : (input : Input) (xs : List ℕ) (a b : ℕ) → BeginsAtArgument input (xs ++ a ∷ []) → Holds input.heap a b → BeginsAtArgument input ((xs ++ a ∷ []) ++ b ∷ [])
 begins_more input [] a b begins holds = (begins.0, (holds, tt))
 begins_more input (x ∷ xs) a b begins holds = (begins.0, linked_more input.heap x xs a b begins.1 holds)
 
@@ -89,15 +89,15 @@ there_too (p ∷ places) (d ∷ depths) (suc number) place size at = there_too p
 
 -- what a slot of an object holds is held by the object's place
 held_there : (heap : Heap) (places : List ℕ) (object slot place : ℕ) → value_in heap places object slot ≡ Some (Ref place)
-    → (holder : ℕ) × (slice_get places object ≡ Some holder) × HoldsObject heap holder place
+    → (holder : ℕ) × (slice_get places object ≡ Some holder) × Holds heap holder place
 held_there heap places object slot place e = go (slice_get places object) refl e
   where
     go : (found : Option ℕ) → slice_get places object ≡ found → option_and_then (λ p. value_at heap p slot) found ≡ Some (Ref place)
-        → (holder : ℕ) × (slice_get places object ≡ Some holder) × HoldsObject heap holder place
+        → (holder : ℕ) × (slice_get places object ≡ Some holder) × Holds heap holder place
     go None at e = absurd cc
     go (Some holder) at e = (holder, at, holds (object_at heap holder) refl e)
       where
-        holds : (of : Option Object) → object_at heap holder ≡ of → option_and_then (λ (o : Object). slice_get o.values slot) of ≡ Some (Ref place) → HoldsObject heap holder place
+        holds : (of : Option Object) → object_at heap holder ≡ of → option_and_then (λ (o : Object). slice_get o.values slot) of ≡ Some (Ref place) → Holds heap holder place
         holds None is e = absurd cc
         holds (Some o) is e = record { object = o; object_is = is; held_there = (slot, e) }
 

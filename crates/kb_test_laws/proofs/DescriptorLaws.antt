@@ -15,7 +15,7 @@ use Rattle.kb_format.specs.Rules.{IsEntryName}
 use Rattle.kb_class.specs.declared.members.MemberKind.{MemberKind}
 use Rattle.kb_class.specs.declared.members.MemberKind.TheVariants as kinds
 use Rattle.kb_class.specs.Loading.{SpellsExact, SpellsKind}
-use Rattle.kb_class.specs.Naming.{Has, Holds, exact_of}
+use Rattle.kb_class.specs.Naming.{Has, HoldsType, exact_of}
 use Rattle.kb_class.proofs.Lists.{has_cases, has_none}
 use Rattle.kb_heap_words.specs.Words.{IsExact}
 use Rattle.kb_test_laws.proofs.ByteLaws.{bytes_front, bytes_behind}
@@ -76,7 +76,7 @@ param_has_text [] held are has = absurd (has_none held has)
 param_has_text (type ∷ types) held are has =
     elim (has_cases type held types has) [ inl same ↦ subst (IsType Escaped) same are.0 | inr later ↦ param_has_text types held are.1 later ]
 
-pub held_has_text : (kind : MemberKind) (held : JType) → KindHasText kind → Holds kind held → IsType Escaped held
+pub held_has_text : (kind : MemberKind) (held : JType) → KindHasText kind → HoldsType kind held → IsType Escaped held
 held_has_text (kinds.Field type) held has holds = subst (IsType Escaped) (sym holds) has
 held_has_text (kinds.Method kind) held has (inl param) = param_has_text kind.params held has.params param
 held_has_text (kinds.Method kind) held has (inr result) = subst (IsResult Escaped) result has.result
