@@ -18,12 +18,16 @@ instruction, since that is what a state and its arguments take.
 
 A method that the steps do not carry out yet is named, and not timed.
 
-Usage: bench/steps.py [--runs N] [FAMILY ...]
-It needs javac. The first run takes as long as the proofs of kb_drive and the crates below it take, unless a checkout on this
+With --count the instructions of the processor are counted in place of the time, by valgrind, one run each: what else the machine
+does changes nothing there.
+
+Usage: bench/steps.py [--runs N] [--count] [FAMILY ...]
+It needs javac. The first run takes as long as the proofs of kb_steps and the crates below it take, unless a checkout on this
 machine has kept them.
 """
 
 import argparse
+import re
 import subprocess
 import sys
 import tempfile
@@ -40,36 +44,26 @@ from model import Explorer  # noqa: E402
 
 NAME = "stepping"
 CRATES = with_those_below(
-    f"{NAME}: kb_class kb_classes kb_drive kb_frames kb_heap kb_lazy kb_load kb_names kb_picture kb_rows kb_stepint kb_stepref "
-    "kb_ways kb_world"
+    f"{NAME}: kb_class kb_classes kb_frames kb_heap kb_lazy kb_load kb_names kb_picture kb_rows kb_steps kb_ways kb_world"
 )
 
 SOURCE = with_main("""\
 //! Takes one state of a method on until its run ends, so many times, and counts the instructions.
 #![tactic(auto)]
 
-ghost use Rattle.std.specs.Prelude.{◌≡◌, true, false, IfOk, OnOk, if◌then◌else◌};
-ghost use Rattle.kb_class.specs.Naming.{Has};
-ghost use Rattle.kb_classes.specs.World.{World};
-ghost use Rattle.kb_frames.specs.Next.{next_is_int};
-ghost use Rattle.kb_frames.specs.State.{State};
-ghost use Rattle.kb_stepint.specs.Choices.{choices_of as int_choices};
-ghost use Rattle.kb_ways.specs.Reached.{IsReached};
-ghost use Rattle.kb_stepref.specs.Choices.{choices_of as reference_choices};
-ghost use Rattle.kb_drive.specs.HeapMethods.{is_heap_method};
+ghost use Rattle.std.specs.Prelude.{◌≡◌, true, IfOk};
 ghost use Rattle.kb_lazy.specs.Laws.{AreInRange};
-ghost use Rattle.kb_drive.specs.Reached.{GoesOnReached, IsHeapReached};
+ghost use Rattle.kb_ways.specs.Built.{IsBuiltNext};
+ghost use Rattle.kb_steps.specs.Stepping.{IsStepping, StepsOn};
+ghost use Rattle.kb_steps.specs.Taking.{choices_at};
 
 use kb_class::MethodId;
-use kb_drive::{heap_methods_stay, is_heap_method};
-use kb_frames::{Outcome, SymState, start};
+use kb_frames::{Outcome, SymState};
 use kb_heap::{Bounds, RunBounds};
 use kb_load::{reached, world_of};
 use kb_names::read_target;
-use kb_picture::{Choice, Init};
-use kb_rows::Held;
-use kb_stepint::{advance_int, take_int};
-use kb_stepref::{advance_ref, take_ref};
+use kb_picture::Choice;
+use kb_steps::{advance, begin, goes_on, is_built_next, take};
 use kb_ways::Advanced;
 use kb_world::World;
 use std::alloc::{AllocError, AllocFailed, Global};
@@ -83,6 +77,7 @@ use std::alloc::{AllocError, AllocFailed, Global};
 const MOST: u32 = 200_000;
 
 /// What is taken of each choice in turn, how many were, and how many instructions were carried out.
+#[derive(Drop)]
 struct Run {
     decisions: Vec<u32>,
     taken: usize,
@@ -165,11 +160,11 @@ fn answer(alloc: Global, words: &[String]) -> Result<Option<u32>, Stop> {
     )
 }
 
-/// Whether an int can count the elements of an array within the bound, and one more.
+/// Whether an int can count the elements of an array within either bound, and one more.
 fn is_in_range(bounds: &Bounds) -> bool
     ensures { result ≡ true → AreInRange bounds.now }
 {
-    bounds.array < i32::MAX as u32
+    bounds.array < i32::MAX as u32 && bounds.run.alloc < i32::MAX as u32
 }
 
 /// The world of the classes whose files these digits spell.
@@ -203,9 +198,6 @@ fn count_in(
     let Some(method) = reached(alloc, world, &target) else {
         return Ok(None);
     };
-    if !is_heap_method(world, method) {
-        return Ok(None);
-    }
     count(alloc, world, method, decisions, times, bounds)
 }
 
@@ -217,8 +209,7 @@ fn count(
     times: u32,
     bounds: &Bounds,
 ) -> Result<Option<u32>, Stop>
-    requires heap { is_heap_method world.now method ≡ true }
-    requires range { AreInRange bounds.now }
+    requires { AreInRange bounds.now }
 {
     let mut run = Run {
         decisions: decisions_of(alloc, decisions.as_str())?,
@@ -227,63 +218,49 @@ fn count(
     };
     for _ in 0..times {
         run.taken = 0;
-        run_once(alloc, world, method, bounds, &mut run)?;
+        if !run_once(alloc, world, method, bounds, &mut run)? {
+            return Ok(None);
+        }
     }
     Ok(Some(run.carried))
 }
 
+/// A run. Whether the steps carry out all its instructions.
 fn run_once(
     alloc: Global,
     world: &World,
     method: MethodId,
     bounds: &Bounds,
     run: &mut Run,
-) -> Result<(), Stop>
-    requires heap { is_heap_method world.now method ≡ true }
-    requires range { AreInRange bounds.now }
+) -> Result<bool, Stop>
+    requires { AreInRange bounds.now }
 {
-    let mut state = begin(alloc, world, method)?;
+    let Some(mut state) = begin(alloc, world, method)? else {
+        return Ok(false);
+    };
     follow(alloc, world, bounds, run, state.get_mut())
 }
 
-/// The state before the first step, in a box.
-fn begin(alloc: Global, world: &World, method: MethodId) -> Result<Held<SymState>, Stop>
-    requires { is_heap_method world.now method ≡ true }
-    ensures { IfOk result (IsHeapReached world.now) }
-{
-    let state = first_state(alloc, world, method)?;
-    Ok(Held::new(alloc, state)?)
-}
-
-fn first_state(alloc: Global, world: &World, method: MethodId) -> Result<SymState, Stop>
-    requires { is_heap_method world.now method ≡ true }
-    ensures { IfOk result (IsHeapReached world.now) }
-{
-    heap_methods_stay();
-    let _ = world.method_of(method);
-    match start(alloc, world, method, Init::Lazy) {
-        Ok(state) => Ok(state),
-        Err(_) => Err(Stop),
-    }
-}
-
-/// Steps on as long as another one comes.
+/// Steps on as long as another one comes, and is built. Whether all were.
 fn follow(
     alloc: Global,
     world: &World,
     bounds: &Bounds,
     run: &mut Run,
     state: &mut SymState,
-) -> Result<(), Stop>
-    requires reached { IsHeapReached world.now state.old }
+) -> Result<bool, Stop>
+    requires stepping { IsStepping world.now state.old }
     requires range { AreInRange bounds.now }
 {
     for _ in 0..MOST {
+        if !is_built_next(world, state) {
+            return Ok(false);
+        }
         if !step(alloc, world, bounds, run, state)? {
-            return Ok(());
+            return Ok(true);
         }
     }
-    Ok(())
+    Ok(true)
 }
 
 /// One step. Whether another one comes behind it.
@@ -294,42 +271,22 @@ fn step(
     run: &mut Run,
     state: &mut SymState,
 ) -> Result<bool, Stop>
-    requires reached { IsHeapReached world.now state.old }
+    requires stepping { IsStepping world.now state.old }
+    requires built { IsBuiltNext world.now state.old }
     requires range { AreInRange bounds.now }
-    ensures { IfOk result (λ goes_on. goes_on ≡ true → IsHeapReached world.now state.new) }
+    ensures { IfOk result (λ goes_on. goes_on ≡ true → IsStepping world.now state.new) }
 {
-    if state.next_is_int(world) {
-        return step_on_ints(alloc, world, bounds, run, state);
-    }
-    step_on_references(alloc, world, bounds, run, state)
-}
-
-fn step_on_ints(
-    alloc: Global,
-    world: &World,
-    bounds: &Bounds,
-    run: &mut Run,
-    state: &mut SymState,
-) -> Result<bool, Stop>
-    requires reached { IsHeapReached world.now state.old }
-    requires ints { next_is_int world.now state.old ≡ true }
-    requires range { AreInRange bounds.now }
-    ensures { IfOk result (λ goes_on. goes_on ≡ true → IsHeapReached world.now state.new) }
-{
-    heap_methods_stay();
-    match advance_int(alloc, world, state, bounds) {
+    match advance(alloc, world, state, bounds) {
         Ok(Advanced::Chooses(choices)) => {
-            take_on_ints(alloc, world, bounds, run, state, choices.as_slice())
+            choose(alloc, world, bounds, run, state, choices.as_slice())
         }
-        Ok(Advanced::Took(outcome)) => {
-            run.count(&outcome);
-            Ok(goes_on(&outcome))
-        }
+        Ok(Advanced::Took(outcome)) => count_step(world, state, run, &outcome),
         Err(_) => Err(Stop),
     }
 }
 
-fn take_on_ints(
+/// Takes an alternative.
+fn choose(
     alloc: Global,
     world: &World,
     bounds: &Bounds,
@@ -337,86 +294,90 @@ fn take_on_ints(
     state: &mut SymState,
     choices: &[Choice],
 ) -> Result<bool, Stop>
-    requires reached { IsHeapReached world.now state.old }
-    requires ints { next_is_int world.now state.old ≡ true }
-    requires offered { choices.now ≡ int_choices world.now state.old bounds.now }
-    ensures { IfOk result (λ goes_on. goes_on ≡ true → IsHeapReached world.now state.new) }
+    requires stepping { IsStepping world.now state.old }
+    requires built { IsBuiltNext world.now state.old }
+    requires range { AreInRange bounds.now }
+    requires offered { choices.now ≡ choices_at world.now bounds.now state.old }
+    ensures { IfOk result (λ goes_on. goes_on ≡ true → IsStepping world.now state.new) }
 {
-    heap_methods_stay();
     let Some(choice) = choices.get(run.place(choices.len())) else {
         return Err(Stop);
     };
-    match take_int(alloc, world, state, choice, bounds) {
-        Ok(outcome) => {
-            run.count(&outcome);
-            Ok(goes_on(&outcome))
-        }
-        Err(_) => Err(Stop),
-    }
+    let outcome = take(alloc, world, state, choice, bounds)?;
+    count_step(world, state, run, &outcome)
 }
 
-fn step_on_references(
-    alloc: Global,
-    world: &World,
-    bounds: &Bounds,
+/// Counts what was carried out. Whether another step comes behind it.
+fn count_step(
+    _world: &World,
+    _state: &SymState,
     run: &mut Run,
-    state: &mut SymState,
+    outcome: &Outcome,
 ) -> Result<bool, Stop>
-    requires reached { IsHeapReached world.now state.old }
-    requires references { next_is_int world.now state.old ≡ false }
-    requires range { AreInRange bounds.now }
-    ensures { IfOk result (λ goes_on. goes_on ≡ true → IsHeapReached world.now state.new) }
+    requires { StepsOn _world.now _state.now outcome.now }
+    ensures { IfOk result (λ goes_on. goes_on ≡ true → IsStepping _world.now _state.now) }
 {
-    heap_methods_stay();
-    match advance_ref(alloc, world, state, bounds) {
-        Ok(Advanced::Chooses(choices)) => {
-            take_on_references(alloc, world, bounds, run, state, choices.as_slice())
-        }
-        Ok(Advanced::Took(outcome)) => {
-            run.count(&outcome);
-            Ok(goes_on(&outcome))
-        }
-        Err(_) => Err(Stop),
-    }
-}
-
-fn take_on_references(
-    alloc: Global,
-    world: &World,
-    bounds: &Bounds,
-    run: &mut Run,
-    state: &mut SymState,
-    choices: &[Choice],
-) -> Result<bool, Stop>
-    requires reached { IsHeapReached world.now state.old }
-    requires references { next_is_int world.now state.old ≡ false }
-    requires range { AreInRange bounds.now }
-    requires offered { choices.now ≡ reference_choices world.now state.old bounds.now }
-    ensures { IfOk result (λ goes_on. goes_on ≡ true → IsHeapReached world.now state.new) }
-{
-    heap_methods_stay();
-    let Some(choice) = choices.get(run.place(choices.len())) else {
-        return Err(Stop);
-    };
-    match take_ref(alloc, world, state, choice, bounds) {
-        Ok(outcome) => {
-            run.count(&outcome);
-            Ok(goes_on(&outcome))
-        }
-        Err(_) => Err(Stop),
-    }
-}
-
-/// Whether another step comes behind the outcome. Then the state behind it is one from which steps lead on.
-fn goes_on(outcome: &Outcome) -> bool
-    ensures { (world : World) (state : State) → result ≡ true → GoesOnReached world state outcome.now → IsHeapReached world state }
-{
-    matches!(outcome, Outcome::Asks | Outcome::Goes)
+    run.count(outcome);
+    Ok(goes_on(outcome))
 }
 """, """\
         None => println!(rt; "unasked"),
         Some(count) => println!(rt; "{count}"),
 """)
+
+# what holds before each step, and what its two ways give to the next one
+PROOFS = {
+    "proofs/Lib.antt": "",
+    "proofs/follow/Invariants.antt": """\
+use Rattle.kb_steps.specs.Stepping.{IsStepping}
+use Rattle.stepping.proofs.follow.Given as goal
+
+abbrev pub invariant-loop : goal.invariant-loop
+invariant-loop l = IsStepping l.world l.state
+""",
+    "proofs/count_step/Answers.antt": """\
+use Rattle.stepping.proofs.count_step.Goals as goal
+
+pub returns : goal.returns
+returns c = λ is. c.goes_on.ensures.stepping c.args._world.now c.args._state.now is c.requires
+""",
+    "proofs/step/Answers.antt": """\
+-- a state that has a choice is as before, and behind the only way on it is one from which steps lead on
+use Rattle.std.proofs.Common.{◌≡◌, sym, subst, ◌∙◌}
+use Rattle.kb_classes.specs.World.{World}
+use Rattle.kb_picture.specs.declared.choice.Choice.TheVariants.{Only}
+use Rattle.kb_heap.specs.declared.bounds.Bounds.{Bounds}
+use Rattle.kb_frames.specs.State.{State}
+use Rattle.kb_ways.specs.Advancing.{IsAdvanced}
+use Rattle.kb_ways.specs.Built.{IsBuiltNext}
+use Rattle.kb_ways.specs.declared.advanced.Advanced.{Advanced}
+use Rattle.kb_ways.specs.declared.advanced.Advanced.TheVariants.{Chooses}
+use Rattle.kb_steps.specs.Stepping.{AdvancesOn}
+use Rattle.kb_steps.specs.Taking.{choices_at, taken_at}
+use Rattle.stepping.proofs.step.Goals as goal
+
+abbrev Advances : World → Bounds → State → State → Advanced → Type 0
+Advances world bounds old new advanced = IsAdvanced (choices_at world bounds old) (taken_at world bounds old Only) old new advanced
+
+pub choose-requires-clause-stepping : goal.choose-requires-clause-stepping
+choose-requires-clause-stepping c = subst (AdvancesOn c.args.world.now c.advance.new.state) c.in-Ok-Chooses.field-0-is c.in-Ok-Chooses.ensures.on
+
+pub choose-requires-clause-built : goal.choose-requires-clause-built
+choose-requires-clause-built c =
+    let advanced : Advances c.args.world.now c.args.bounds.now c.args.state.now c.advance.new.state (Chooses c.in-Ok-Chooses.choices) =
+    subst (Advances c.args.world.now c.args.bounds.now c.args.state.now c.advance.new.state) c.in-Ok-Chooses.field-0-is c.in-Ok-Chooses.ensures.advanced in
+    subst (IsBuiltNext c.args.world.now) (sym advanced.0) c.requires.built
+
+pub choose-requires-clause-offered : goal.choose-requires-clause-offered
+choose-requires-clause-offered c =
+    let advanced : Advances c.args.world.now c.args.bounds.now c.args.state.now c.advance.new.state (Chooses c.in-Ok-Chooses.choices) =
+    subst (Advances c.args.world.now c.args.bounds.now c.args.state.now c.advance.new.state) c.in-Ok-Chooses.field-0-is c.in-Ok-Chooses.ensures.advanced in
+    subst (λ (s : State). c.as_slice.result.now ≡ choices_at c.args.world.now c.args.bounds.now s) (sym advanced.0) (c.as_slice.ensures.value ∙ advanced.1)
+
+pub count_step-requires : goal.count_step-requires
+count_step-requires c = subst (AdvancesOn c.args.world.now c.advance.new.state) c.in-Ok-Took.field-0-is c.in-Ok-Took.ensures.on
+""",
+}
 
 SOURCES = [ROOT / "examples" / "List.java", ROOT / "bench" / "steps" / "Walked.java"]
 WALKED = ["Walked", "Shape", "Square", "Disc"]
@@ -424,6 +385,8 @@ WALKED = ["Walked", "Shape", "Square", "Disc"]
 STEPS = 100_000
 # instructions of all runs of a row together, with the alternatives of the last choice of each
 WORK = 2_000_000
+# the same where the processor's instructions are counted
+COUNTED_WORK = 50_000
 FAMILIES = ("lists", "ints", "heap", "calls", "arrays", "throws")
 
 
@@ -451,12 +414,13 @@ class Load:
             place = self.place(state, [way for way, _ in ways]) if len(ways) > 1 else 0
             if len(ways) > 1:
                 decisions.append(place)
+            if ways[0][0] != ("only",):
                 alternatives = len(ways)
             frames = len(state.callers)
             outcome, state = explorer.take(state, *ways[place])
             if frames - len(state.callers) > 1:
                 before = state.carried - 1
-        assert outcome[0] == "returns", (self.target, outcome)
+        assert outcome[0] in ("returns", "throws"), (self.target, outcome)
         return decisions, state.carried + 1, alternatives, before
 
     def place(self, state, ways):
@@ -472,19 +436,44 @@ class Load:
         return [self.target, *map(str, numbers), *(self.classes[name].hex() for name in self.names)]
 
     def is_carried_out(self):
-        """Whether the steps carry the method out."""
-        run = subprocess.run([str(PROGRAM.path), *self.words(1, 0)], stdin=subprocess.DEVNULL, capture_output=True, check=True)
+        """Whether the steps carry out all instructions of the run."""
+        run = subprocess.run([str(PROGRAM.path), *self.words(self.model[1], 1)], stdin=subprocess.DEVNULL, capture_output=True, check=True)
         return run.stdout != b"unasked\n"
 
-    def seconds(self, runs, first=1):
-        """The seconds of one run, less those of one that is cut behind so many instructions."""
+    def cost(self, scale, first=1):
+        """What one run takes, less what one takes that is cut behind so many instructions."""
         _, length, alternatives, _ = self.model
-        times = max(WORK // (length + alternatives), 1)
-        whole, cut = (min(self.timed(steps, times, steps * times) for _ in range(runs)) for steps in (length, first))
+        times = max(scale.work // (length + alternatives), 1)
+        whole, cut = (scale.of_run(self.words(steps, times), f"{steps * times}\n".encode()) for steps in (length, first))
         return max(whole - cut, 1e-12) / times
 
-    def timed(self, steps, times, wanted):
-        return PROGRAM.timed_run(self.words(steps, times), f"{wanted}\n".encode())
+
+@dataclass
+class Clock:
+    """Nanoseconds of the processor, the least of some runs."""
+
+    runs: int
+    unit: str = "ns"
+    work: int = WORK
+
+    def of_run(self, words, wanted):
+        return min(PROGRAM.timed_run(words, wanted) for _ in range(self.runs)) * 1e9
+
+
+@dataclass
+class Counter:
+    """Instructions of the processor."""
+
+    unit: str = "processor's"
+    work: int = COUNTED_WORK
+
+    def of_run(self, words, wanted):
+        tool = ["valgrind", "--tool=cachegrind", "--cache-sim=no", "--cachegrind-out-file=/dev/null"]
+        run = subprocess.run([*tool, str(PROGRAM.path), *words], stdin=subprocess.DEVNULL, capture_output=True)
+        counted = re.search(rb"I +refs: +([0-9,]+)", run.stderr)
+        if not counted or run.returncode != 0 or run.stdout != wanted:
+            sys.exit(f"{' '.join(words)[:200]}: status {run.returncode}, {run.stdout!r} and not {wanted!r}")
+        return int(counted[1].replace(b",", b""))
 
 
 def class_files():
@@ -505,6 +494,10 @@ def walked(classes, name, **options):
     return Load(classes, f"Walked.{name}", WALKED, **options)
 
 
+def failing(classes, name):
+    return Load(classes, f"Failing.{name}", ["Failing"])
+
+
 def rows_of(classes):
     """The rows of each family whose instructions are timed."""
     calls = [*(f"frames{count}" for count in (2, 8, 32, 128, 256)), "statics", "virtual"]
@@ -514,71 +507,73 @@ def rows_of(classes):
         "heap": [walked(classes, "fields(LWalked;)I", objects=1), walked(classes, "sum(LWalked;)I", objects=15)],
         "calls": [*(walked(classes, f"{name}()I") for name in calls), walked(classes, "made()LWalked;")],
         "arrays": [walked(classes, "elements([I)I", objects=1)],
-        "throws": [walked(classes, "tries()I")],
+        "throws": [failing(classes, "tries()I")],
     }
 
 
-def print_rows(family, loads, runs, of_lists):
-    """A line for each method: instructions, the time of one, and that beside one of `lists`. The mean of all is given back."""
-    print(f"{family:<32} {'instructions':>12} {'ns/instruction':>15} {'of lists':>9}")
+def print_rows(family, loads, scale, of_lists):
+    """A line for each method: instructions, what one takes, and that beside one of `lists`. The mean of all is given back."""
+    print(f"{family:<32} {'instructions':>12} {scale.unit + ' of one':>20} {'of lists':>9}")
     total = [0, 0]
     for load in loads:
         if not load.is_carried_out():
             print(f"{load.target:<32} {'is not carried out yet':>12}")
             continue
         taken = load.model[1] - 1
-        seconds = load.seconds(runs)
-        total = [total[0] + seconds, total[1] + taken]
-        each = seconds * 1e9 / taken
-        print(f"{load.target:<32} {taken:>12} {each:>15.1f} {each / of_lists if of_lists else 1:>9.2f}", flush=True)
-    return total[0] * 1e9 / total[1] if total[1] else None
+        cost = load.cost(scale)
+        total = [total[0] + cost, total[1] + taken]
+        each = cost / taken
+        print(f"{load.target:<32} {taken:>12} {each:>20.1f} {each / of_lists if of_lists else 1:>9.2f}", flush=True)
+    return total[0] / total[1] if total[1] else None
 
 
-def print_alternatives(classes, runs):
-    """How long a choice among places, and one among lengths, takes with what is taken."""
-    print(f"{'alternatives':<32} {'of a choice':>12} {'us/run':>15}")
-    loads = [walked(classes, "get([II)I", objects=1, bounds={"array": size, "alloc": 16}) for size in (1, 4, 16)]
+def print_alternatives(classes, scale):
+    """What a choice among places, and one among lengths, takes with what is taken."""
+    print(f"{'alternatives':<32} {'of a choice':>12} {scale.unit + ' of a run':>20}")
+    loads = [walked(classes, "get([II)I", objects=1, bounds={"array": size, "alloc": 16}) for size in (0, 1, 4, 16)]
     loads += [walked(classes, "length(I)I", on_ints=1, bounds={"array": 16, "alloc": alloc}) for alloc in (0, 10, 100, 1_024)]
     for load in loads:
         if not load.is_carried_out():
             print(f"{load.target:<32} {'is not carried out yet':>12}")
             continue
-        print(f"{load.target:<32} {load.model[2]:>12} {load.seconds(runs) * 1e6:>15.2f}", flush=True)
+        print(f"{load.target:<32} {load.model[2]:>12} {load.cost(scale):>20.0f}", flush=True)
 
 
-def print_passes(classes, runs):
-    """How long the throw takes that passes frames, with what comes behind it."""
-    print(f"{'frames that a throw leaves':<32} {'frames':>12} {'us/throw':>15}")
+def print_passes(classes, scale):
+    """What the throw takes that passes frames, with what comes behind it."""
+    print(f"{'frames that a throw leaves':<32} {'frames':>12} {scale.unit + ' of a throw':>20}")
     for frames in (2, 20, 200):
-        load = walked(classes, f"passes{frames}()I")
+        load = failing(classes, f"passes{frames}()I")
         if not load.is_carried_out():
             print(f"{load.target:<32} {'is not carried out yet':>12}")
             continue
-        print(f"{load.target:<32} {frames:>12} {load.seconds(runs, load.model[3]) * 1e6:>15.2f}", flush=True)
+        print(f"{load.target:<32} {frames:>12} {load.cost(scale, load.model[3]):>20.0f}", flush=True)
 
 
-PROGRAM = Program(name=NAME, crates=CRATES, source=SOURCE, trial=["Walked.none()I", "1", "1", "1", "0", "1"])
+PROGRAM = Program(name=NAME, crates=CRATES, source=SOURCE, trial=["Walked.none()I", "1", "1", "1", "0", "1"], proofs=PROOFS)
 
 
 def main():
     words = argparse.ArgumentParser(description="Times the steps of an exploration.")
     words.add_argument("--runs", type=int, default=3, help="runs of each, of which the fastest counts (3)")
+    words.add_argument("--count", action="store_true", help="count the processor's instructions, by valgrind")
     words.add_argument("families", nargs="*", metavar="FAMILY", help=f"of {', '.join(FAMILIES)} (all)")
     options = words.parse_args()
     if options.runs < 1 or not set(options.families) <= set(FAMILIES):
         sys.exit("--runs must be at least 1, and the families those of the first lines")
+    scale = Counter() if options.count else Clock(options.runs)
     PROGRAM.build(__file__)
     classes = class_files()
     rows = rows_of(classes)
-    of_lists = print_rows("lists", rows.pop("lists"), options.runs, None)
+    of_lists = print_rows("lists", rows.pop("lists"), scale, None)
     for family, loads in rows.items():
         if options.families and family not in options.families:
             continue
-        print_rows(family, loads, options.runs, of_lists)
+        print_rows(family, loads, scale, of_lists)
         if family == "arrays":
-            print_alternatives(classes, options.runs)
+            print_alternatives(classes, scale)
         if family == "throws":
-            print_passes(classes, options.runs)
+            print_passes(classes, scale)
 
 
 if __name__ == "__main__":

@@ -108,9 +108,26 @@ class Walked {
         }
         return sum;
     }
+}
 
-    // ---- exceptions: one in each turn that is taken where it is thrown, and one that passes the frames of the names
+abstract class Shape {
+    abstract int area(int width);
+}
 
+class Square extends Shape {
+    int area(int width) {
+        return width * width;
+    }
+}
+
+class Disc extends Shape {
+    int area(int width) {
+        return 3 * width;
+    }
+}
+
+// exceptions: one in each turn that is taken where it is thrown, and one that passes the frames of the names
+class Failing {
     static int tries() {
         int sum = 0;
         for (int i = 0; i < 450; i++) {
@@ -149,21 +166,5 @@ class Walked {
         } catch (ArithmeticException e) {
             return -1;
         }
-    }
-}
-
-abstract class Shape {
-    abstract int area(int width);
-}
-
-class Square extends Shape {
-    int area(int width) {
-        return width * width;
-    }
-}
-
-class Disc extends Shape {
-    int area(int width) {
-        return 3 * width;
     }
 }

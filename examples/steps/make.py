@@ -7,9 +7,6 @@ written after the rules of choices and of the instructions and not after the cra
 row, the values, the exception and the heap, unless the end is ill-typed or stands behind the row, as in `#= returns 1`: then it is
 this project's own and was written by hand.
 
-Each folder here has a table of rows of its own, with its class files' sources, of what the steps do not carry out yet. What is
-expected of it is written beside it.
-
 Usage: examples/steps/make.py
 It needs javac and java of a JDK 17 (examples/machine/Assembler.java uses that JDK's own ASM).
 """
@@ -65,7 +62,7 @@ def state_lines(explorer, state, outcome):
         return lines
     if outcome == "goes":
         frame = state.frame
-        if frame.method is not explorer.method:
+        if frame.method.target != explorer.method.target:
             lines.append(f"  in {frame.method.target}")
         lines.append(" ".join(["  stack", *map(value_text, frame.stack)]))
         room = frame.locals[: frame.method.code.locals]
@@ -82,9 +79,9 @@ def node_text(node):
 
 
 def is_over_heaps(method):
-    """Whether the method is more than one over ints."""
+    """Whether the method is more than one over ints, which has no handlers."""
     names = {instruction.name for instruction in method.instructions.values()}
-    return any(is_reference(kind) for kind in method.parameters + [method.result]) or not names <= INTS
+    return any(is_reference(kind) for kind in method.parameters + [method.result]) or not names <= INTS or bool(method.code.handlers)
 
 
 def walk(world, row):
@@ -172,24 +169,17 @@ def judge_ends(rows, folder, harness):
         print(f"{len(tests)} ends of {count} rows are those of a Java virtual machine: {' '.join(files)}", flush=True)
 
 
-def write_table(sources, table, folder, expected, harness):
-    write_class_files(sources, folder)
-    for text in sorted(sources.glob("*.text")):
-        run("java", *EXPORTS, HERE.parent / "machine" / "Assembler.java", folder, text)
-    rows = list(rows_of(table, folder))
-    expected.write_text("".join(f"{line}\n" for row in rows for line in row.lines))
-    judge_ends(rows, folder, harness)
-
-
 def main():
     for file in DATA.glob("*.class"):
         file.unlink()
     with tempfile.TemporaryDirectory() as harness:
         compile_harness(harness)
-        write_table(HERE, DATA / "rows", DATA, CRATE / "stdout", harness)
-        for table in sorted(HERE.glob("*/rows")):
-            with tempfile.TemporaryDirectory() as folder:
-                write_table(table.parent, table, Path(folder), table.with_name("stdout"), harness)
+        write_class_files(HERE, DATA)
+        for text in sorted(HERE.glob("*.text")):
+            run("java", *EXPORTS, HERE.parent / "machine" / "Assembler.java", DATA, text)
+        rows = list(rows_of(DATA / "rows", DATA))
+        (CRATE / "stdout").write_text("".join(f"{line}\n" for row in rows for line in row.lines))
+        judge_ends(rows, DATA, harness)
 
 
 if __name__ == "__main__":

@@ -17,7 +17,7 @@ use kb_table::{RowResult, RowStop};
 use kb_world::World;
 use std::alloc::Global;
 
-/// The most that a row's bound on arrays may be.
+/// The most that either bound on arrays of a row may be.
 const LONGEST_ARRAY: u32 = 16;
 
 /// How an exploration ends. Its paths, or the one at which it stops, are then in the report.
@@ -70,7 +70,7 @@ fn explore(
 ) -> RowResult<Explored>
     requires { IsAccepted world.now method }
 {
-    if row.paths == 0 || row.bounds.array > LONGEST_ARRAY {
+    if row.paths == 0 || row.bounds.array > LONGEST_ARRAY || row.bounds.run.alloc > LONGEST_ARRAY {
         return Err(RowStop::Malformed);
     }
     if !is_heap_method(world, method) {

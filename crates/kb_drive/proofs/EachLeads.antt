@@ -16,7 +16,7 @@ use Rattle.kb_stepint.proofs.OnlyLaws.{only_way_when}
 use Rattle.kb_stepref.specs.Choices.{choices_of as reference_choices}
 use Rattle.kb_stepref.specs.Laws.{IsAtReferences}
 use Rattle.kb_stepref.specs.Takes.{taken as reference_taken}
-use Rattle.kb_stepref.proofs.KeepLaws.{taken_when}
+use Rattle.kb_stepref.proofs.KeepLaws.{only_when}
 use Rattle.kb_stepref.proofs.OneLaws.{one as one_of_references}
 use Rattle.kb_drive.specs.Steps.{LeadsOn, StepsLeadOn}
 use Rattle.kb_drive.proofs.LeadLaws.{ints_lead}
@@ -43,5 +43,5 @@ steps_lead world bounds state range is = let by = go (next_is_int world state) r
       record {
         one = one_of_references world bounds state at;
         each = λ choice has. references_lead world bounds state at choice is range has;
-        plain = taken_when world bounds state Only;
+        plain = only_when world bounds state;
       }

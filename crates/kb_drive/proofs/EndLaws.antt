@@ -38,9 +38,10 @@ use Rattle.kb_stepint.specs.Effects.{branch_way, computes_by, in_local, int_loca
 use Rattle.kb_stepint.specs.Laws.{OfTakes}
 use Rattle.kb_ways.specs.Operands.{int_term, an_int, two_ints}
 use Rattle.kb_stepint.specs.Takes.{taken}
-use Rattle.kb_ways.specs.Ways.{Take, Way, Goes as WayGoes, Jumps, Enters, Leaves, Throws, Fails, ends, ill_typed, went}
+use Rattle.kb_names.specs.declared.types.ExactType.{ExactType}
+use Rattle.kb_ways.specs.Ways.{ObjectThere, OfClass, OfPicture, OfRun, Take, There, Way, Goes as WayGoes, Jumps, Enters, Leaves, Throws, ThrowsThere, Fails, ends, ill_typed, object_value, uncaught, went}
 use Rattle.kb_picture.specs.declared.path.SymEnding.TheVariants.{Returned}
-use Rattle.kb_ways.proofs.CallLaws.{returned_has}
+use Rattle.kb_ways.proofs.CallLaws.{returned_has, thrown_has}
 use Rattle.kb_ways.proofs.AskedLaws.{interned_is_term}
 use Rattle.kb_ways.proofs.GrowLaws.{Grows, all_asked_grows, if_has, option_has}
 use Rattle.kb_drive.specs.Steps.{EndsIn}
@@ -81,6 +82,7 @@ LeavesIn world state (Jumps target stack) = Unit {0}
 LeavesIn world state (Enters method arguments rest) = ⊥
 LeavesIn world state (Leaves value) = ReturnsIn world state value
 LeavesIn world state (Throws class) = Unit {0}
+LeavesIn world state (ThrowsThere object kind) = IsOutIn world state (length state.made) (out_of (object_value object))
 LeavesIn world state Fails = Unit {0}
 
 module _ (world : World) (state : State) (top : (t : TermId) → an_int (stack_of state.stage) ≡ Some t → IsTerm state.nodes t) where
@@ -168,8 +170,8 @@ module _ (world : World) (bounds : Bounds) where
   returned_ends state None there = record { outs = λ i out at. absurd cc; thrown = tt }
   returned_ends state (Some value) there = record { outs = one_out world state (length state.made) (out_of value) there; thrown = tt }
 
-  thrown_ends : (state : State) (class : List ℕ) → Ending (went world bounds 0 state (Throws class))
-  thrown_ends state class =
+  made_ends : (state : State) (class : List ℕ) → Ending (uncaught world state (OfClass class))
+  made_ends state class =
       let zero_made = interned state.nodes (Const (pos 0)) in
       let one_more : length state.made < length (state.made ++ new_sym_object world class zero_made.1 ∷ []) =
       omega (arith, length-append state.made (new_sym_object world class zero_made.1 ∷ [])) in
@@ -177,6 +179,10 @@ module _ (world : World) (bounds : Bounds) where
         outs = one_out world (with_made world state class) (length (with_made world state class).made) (outs.New (length state.made)) one_more;
         thrown = tt;
       }
+
+  there_ends : (state : State) (object : ObjectThere) (kind : ExactType) → IsOutIn world state (length state.made) (out_of (object_value object)) → Ending (uncaught world state (There object kind))
+  there_ends state (OfPicture number) kind there = record { outs = one_out world state (length state.made) (outs.Obj number) there; thrown = tt }
+  there_ends state (OfRun number) kind there = record { outs = one_out world state (length state.made) (outs.New number) there; thrown = tt }
 
   pub went_ends : (next : ℕ) (state : State) (way : Way) → LeavesIn world state way → Ending (went world bounds next state way)
   went_ends next state (WayGoes locals stack) there =
@@ -186,7 +192,10 @@ module _ (world : World) (bounds : Bounds) where
       (option_has Ending (counted bounds.run (offset_now state.stage) target (transfers_of state.stage)) _ _ (λ n. tt) tt) (ill_ends state)
   went_ends next state (Enters method arguments rest) there = absurd there
   went_ends next state (Leaves value) there = returned_has Ending world state value (returned_ends state value there) (λ caller more waits. tt) (ill_ends state)
-  went_ends next state (Throws class) there = thrown_ends state class
+  went_ends next state (Throws class) there =
+      thrown_has Ending world bounds state (OfClass class) (made_ends state class) (λ count target n frame callers is. tt) tt (ill_ends state)
+  went_ends next state (ThrowsThere object kind) there =
+      thrown_has Ending world bounds state (There object kind) (there_ends state object kind there) (λ count target n frame callers is. tt) tt (ill_ends state)
   went_ends next state Fails there = ill_ends state
 
   abbrev HasTop : State → Type 0

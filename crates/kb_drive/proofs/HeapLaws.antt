@@ -1,5 +1,5 @@
 -- What the steps of states over heaps need of them, and that steps on references leave such states.
-use Rattle.std.proofs.Common.{◌≡◌, ℕ, Bool, true, false, not, Option, Some, None, refl, sym, ap, ◌∙◌, subst, true≢false}
+use Rattle.std.proofs.Common.{◌≡◌, ℕ, Bool, true, false, not, ◌&&◌, Option, Some, None, refl, sym, ap, ◌∙◌, subst, true≢false}
 use Rattle.std.specs.Option.{option_map, option_map_or}
 use Rattle.std.proofs.lemmas.Bool.{and_parts}
 use Rattle.kb_class.specs.declared.ids.MethodId.{MethodId}
@@ -18,8 +18,7 @@ use Rattle.kb_frames.specs.declared.value.Outcome.TheVariants.{Asks, Goes, Ends,
 use Rattle.kb_frames.specs.Next.{method_now, next_is_int, offset_now}
 use Rattle.kb_frames.specs.State.{State}
 use Rattle.kb_ways.specs.Built.{IsBuiltNext, is_built_instruction}
-use Rattle.kb_ways.specs.Reached.{HasNoHandlers, IsAlone}
-use Rattle.kb_ways.proofs.AloneLaws.{alone_unhandled, unhandled_alone}
+use Rattle.kb_ways.specs.Reached.{IsAlone}
 use Rattle.kb_drive.proofs.AloneTakes.{references_alone}
 use Rattle.kb_ways.specs.Simulation.{Keeps}
 use Rattle.kb_ways.proofs.SoundLaws.{reached_sound}
@@ -29,10 +28,10 @@ use Rattle.kb_stepref.specs.Laws.{IsAtReferences}
 use Rattle.kb_stepref.specs.Takes.{taken}
 use Rattle.kb_stepref.proofs.KeepLaws.{kept}
 use Rattle.kb_stepref.proofs.ReachedLaws.{IsKnown, IsKnownUnlessCut, goes_on_known}
-use Rattle.kb_drive.specs.HeapMethods.{is_call_or_new, is_heap_method}
+use Rattle.kb_drive.specs.HeapMethods.{is_heap_method, is_left_to_steps, loads_no_int}
 use Rattle.kb_drive.specs.Reached.{GoesOnReached, IsHeapReached}
 use Rattle.kb_drive.proofs.HeapMethodLaws.{instruction_is_heap}
-use Rattle.kb_drive.proofs.ReferenceEnds.{CallsNothing}
+use Rattle.kb_drive.proofs.HeapPlans.{CallsNothing}
 
 -- ---- what is next
 
@@ -52,15 +51,16 @@ built_next world state h = go (instruction_at world (method_now state.method sta
   go None e = refl
   go (Some found) e =
       subst (λ (m : MethodId). is_built_instruction world m found.0 ≡ true) (sym own)
-      (and_parts (not (is_call_or_new found.0)) (is_built_instruction world state.method found.0)
-      (instruction_is_heap world state.method (offset_now state.stage) found h.method (ap (λ (m : MethodId). instruction_at world m (offset_now state.stage)) (sym own) ∙ e))).1
+      (and_parts (not (loads_no_int world state.method found.0)) (is_built_instruction world state.method found.0)
+      (and_parts (not (is_left_to_steps found.0)) (not (loads_no_int world state.method found.0) && is_built_instruction world state.method found.0)
+      (instruction_is_heap world state.method (offset_now state.stage) found h.method (ap (λ (m : MethodId). instruction_at world m (offset_now state.stage)) (sym own) ∙ e))).1).1
 
 -- and calls nothing
 pub calls_nothing : (world : World) (state : State) → IsHeapReached world state → CallsNothing world state
 calls_nothing world state h found e =
     let own : method_now state.method state.stage ≡ state.method = method_is_own state.method state.stage h.alone in
-    none (is_call_or_new found.0)
-    (and_parts (not (is_call_or_new found.0)) (is_built_instruction world state.method found.0)
+    none (is_left_to_steps found.0)
+    (and_parts (not (is_left_to_steps found.0)) (not (loads_no_int world state.method found.0) && is_built_instruction world state.method found.0)
     (instruction_is_heap world state.method (offset_now state.stage) found h.method (ap (λ (m : MethodId). instruction_at world m (offset_now state.stage)) (sym own) ∙ e))).0
   where
     none : (b : Bool) → not b ≡ true → b ≡ false
@@ -68,16 +68,16 @@ calls_nothing world state h found e =
     none false is = refl
 
 pub at_ints : (world : World) (state : State) → IsHeapReached world state → next_is_int world state ≡ true → IsAtInts world state
-at_ints world state h ints = record { reached = h.reached; unhandled = h.unhandled; next = ints }
+at_ints world state h ints = record { reached = h.reached; next = ints }
 
 pub at_references : (world : World) (state : State) → IsHeapReached world state → next_is_int world state ≡ false → IsAtReferences world state
 at_references world state h next = record {
   reached = h.reached;
-  unhandled = h.unhandled;
   linked = h.linked;
   lazy = h.lazy;
   known = h.known;
   within = h.within;
+  bounded = h.bounded;
   built = built_next world state h;
   next = next;
 }
@@ -97,19 +97,18 @@ goes_on_reached world bounds state choice range h next has pool =
     keeps = kept world bounds state choice (at_references world state h next)
 
     alone : IsAlone after.method after.stage
-    alone = references_alone world bounds state choice range (at_references world state h next) (calls_nothing world state h) h.alone has
+    alone = references_alone world bounds state choice (at_references world state h next) (calls_nothing world state h) h.alone
 
     known : IsKnown world after → IsHeapReached world after
     known is = record {
       reached = reached_sound world after is.sound pool;
       alone = alone;
-      unhandled = alone_unhandled world after.method after.stage alone
-          (subst (HasNoHandlers world) (sym keeps.method) (unhandled_alone world state.method state.stage h.alone h.unhandled));
       linked = h.linked;
       method = subst (λ (m : MethodId). is_heap_method world m ≡ true) (sym keeps.method) h.method;
       lazy = is.lazy;
       known = is.known;
       within = is.within;
+      bounded = is.bounded;
     }
 
     go : (outcome : Outcome) → IsKnownUnlessCut world after outcome → GoesOnReached world after outcome

@@ -19,7 +19,7 @@ use Rattle.kb_frames.specs.State.{start_state}
 use Rattle.kb_frames.specs.States.{IsState}
 use Rattle.kb_frames.proofs.StateLaws.{start_is_state}
 use Rattle.kb_ways.specs.Reached.{has_none}
-use Rattle.kb_ways.proofs.MethodLaws.{all_passed, code_found, found_has, handlers_none, start_typed, all_rise}
+use Rattle.kb_ways.proofs.MethodLaws.{all_passed, code_found, found_has, start_typed, all_rise}
 use Rattle.kb_drive.specs.HeapMethods.{is_heap_code, is_heap_info, is_heap_instruction, is_heap_method, is_none_or_value}
 use Rattle.kb_drive.specs.Reached.{IsHeapReached}
 
@@ -79,12 +79,12 @@ heap_methods_begin world method linked heap = record {
     keys = all_rise world linked;
   };
   alone = tt;
-  unhandled = rw (code_found world method h.info h.code h.info_is h.code_is) (handlers_none h.code.handlers h.handlers);
   linked = linked;
   method = heap;
   lazy = refl;
   known = refl;
   within = λ slot beyond. elim beyond [ inl seen ↦ no_at seen.0 _ seen.1 | inr loc ↦ no_at loc.0 _ loc.1 ];
+  bounded = λ number object at. absurd (no_at number object at);
 } where
   h : HasHeapInfo world method
   h = heap_info world method heap

@@ -21,8 +21,7 @@ use Rattle.kb_stepref.proofs.ReachedLaws.{IsPlain, int_plain}
 use Rattle.kb_ways.specs.Plans.{takes_next}
 use Rattle.kb_stepint.specs.Effects.{plan_of}
 use Rattle.kb_drive.proofs.HeapLaws.{at_ints}
-use Rattle.kb_ways.specs.Reached.{HasNoHandlers, IsAlone}
-use Rattle.kb_ways.proofs.AloneLaws.{alone_unhandled, unhandled_alone}
+use Rattle.kb_ways.specs.Reached.{IsAlone}
 use Rattle.kb_drive.proofs.AloneTakes.{ints_alone}
 
 pub ints_keep : (world : World) (bounds : Bounds) (state : State) (choice : Choice) → IsHeapReached world state → next_is_int world state ≡ true
@@ -30,13 +29,12 @@ pub ints_keep : (world : World) (bounds : Bounds) (state : State) (choice : Choi
 ints_keep world bounds state choice h ints pool = record {
   reached = int_is_reached world bounds choice state at pool;
   alone = alone;
-  unhandled = alone_unhandled world (int_taken world bounds state choice).state.method (int_taken world bounds state choice).state.stage alone
-      (subst (HasNoHandlers world) (sym keeps.method) (unhandled_alone world state.method state.stage h.alone h.unhandled));
   linked = h.linked;
   method = subst (λ m. is_heap_method world m ≡ true) (sym keeps.method) h.method;
   lazy = keeps.init ∙ h.lazy;
   known = plain.0;
   within = plain.1;
+  bounded = plain.2;
 } where
   at : IsAtInts world state
   at = at_ints world state h ints
@@ -50,5 +48,5 @@ ints_keep world bounds state choice h ints pool = record {
   plain : IsPlain (int_taken world bounds state choice).state.picture
   plain = go (argument_next world state.method state.stage) where
     go : (type : Option JType) → IsPlain (option_map_or (reads_argument state) type (takes_next plan_of world bounds choice state)).state.picture
-    go None = subst IsPlain (sym (takes_next_stays world bounds choice state).picture) (h.known, h.within)
-    go (Some type) = int_plain state.picture (Arg (read_count state.stage)) (h.known, h.within)
+    go None = subst IsPlain (sym (takes_next_stays world bounds choice state).picture) (h.known, h.within, h.bounded)
+    go (Some type) = int_plain state.picture (Arg (read_count state.stage)) (h.known, h.within, h.bounded)

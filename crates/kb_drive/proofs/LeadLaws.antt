@@ -1,5 +1,5 @@
 -- The int steps lead on, by the laws of kb_stepint: what is seen of an input stays, and fewer takes can follow.
-use Rattle.std.proofs.Common.{◌≡◌, ℕ, ◌+◌, ◌-◌, ◌*◌, ◌<◌, ◌≤◌, ℤ, Bool, true, false, List, [], ◌∷◌, ◌++◌, length, take, nat_le, refl, sym, ap, subst, ◌∙◌, if◌then◌else◌, arith}
+use Rattle.std.proofs.Common.{◌≡◌, ℕ, ◌+◌, ◌-◌, ◌*◌, ◌<◌, ◌≤◌, ℤ, Bool, true, false, List, [], ◌∷◌, ◌++◌, drop, length, take, nat_le, refl, sym, ap, subst, ◌∙◌, if◌then◌else◌, arith}
 use Rattle.std.specs.List.{filter_map}
 use Rattle.std.specs.Option.{option_map_or}
 use Rattle.std.proofs.lemmas.Bool.{leb-false}
@@ -32,7 +32,8 @@ use Rattle.kb_frames.specs.declared.state.Stage.{Stage}
 use Rattle.kb_frames.specs.declared.state.Stage.TheVariants.{Begins, Runs}
 use Rattle.kb_frames.specs.declared.value.Outcome.{Outcome}
 use Rattle.kb_frames.specs.declared.value.Outcome.TheVariants.{Asks, Goes, Ends, Cut}
-use Rattle.kb_frames.specs.Lent.{begun, begun_stage, read_count, stack_of, transfers_of, with_frame}
+use Rattle.kb_frames.specs.FirstReads.{with_read}
+use Rattle.kb_frames.specs.Lent.{begun, begun_stage, carried_on, read_count, stack_of, transfers_of, with_frame}
 use Rattle.kb_ways.specs.Measure.{choices_left, left_of, questions_of, unread_at}
 use Rattle.kb_frames.specs.Next.{argument_next, instruction_next, method_now, next_is_int, offset_now}
 use Rattle.kb_frames.specs.State.{State}
@@ -43,10 +44,12 @@ use Rattle.kb_stepint.specs.Laws.{IsAtInts}
 use Rattle.kb_ways.specs.Simulation.{GetsOn}
 use Rattle.kb_stepint.specs.Takes.{taken, reads_argument}
 use Rattle.kb_ways.specs.Plans.{takes_next, takes_up, carried_out}
-use Rattle.kb_ways.specs.Ways.{Take, Way, Goes as WayGoes, Jumps, Enters, Leaves, Throws, Fails, carries_out, ill_typed, resumes, went}
-use Rattle.kb_frames.specs.Calls.{called_stage, left, left_stage}
+use Rattle.kb_ways.specs.Ways.{OfClass, Take, There, Way, Goes as WayGoes, Jumps, Enters, Leaves, Throws, ThrowsThere, Fails, carries_out, ill_typed, object_value, resumes, went}
+use Rattle.kb_frames.specs.Calls.{back_to, called, called_stage, landed, left, left_stage}
+use Rattle.kb_frames.specs.Making.{with_made}
 use Rattle.kb_frames.specs.declared.value.SymValue.{SymValue}
-use Rattle.kb_ways.proofs.CallLaws.{entered_has, returned_has}
+use Rattle.kb_frames.specs.declared.value.SymValue.TheVariants.{New}
+use Rattle.kb_ways.proofs.CallLaws.{entered_has, returned_has, thrown_has}
 use Rattle.kb_ways.proofs.GrowLaws.{Grows, all_asked_grows, front_itself, if_has, option_has, HasMore}
 use Rattle.kb_stepint.proofs.AddedLaws.{adds}
 use Rattle.kb_stepint.proofs.KeepLaws.{kept, reads, takes_next_stays, effect_makes}
@@ -124,10 +127,10 @@ abbrev pub IsRunning : Stage → Type 0
 IsRunning (Begins read) = ⊥
 IsRunning (Runs frame callers) = Unit {0}
 
-few_at : (world : World) (method : MethodId) (stage : Stage) → IsRunning stage
-    → left_of (unread_at world method stage) (option_map_or questions_of (instruction_next world method stage) 0) ≤ 5
-few_at world method (Begins read) running = absurd running
-few_at world method (Runs frame callers) running = few_next (instruction_next world method (Runs frame callers))
+few_at : (world : World) (state : State) (method : MethodId) (stage : Stage) → IsRunning stage
+    → left_of (unread_at world method stage) (option_map_or (questions_of state) (instruction_next world method stage) 0) ≤ 5
+few_at world state method (Begins read) running = absurd running
+few_at world state method (Runs frame callers) running = few_next state (instruction_next world method (Runs frame callers))
 
 pub framed_runs : (f : SymFrame → SymFrame) (stage : Stage) → IsRunning stage → IsRunning (with_frame f stage)
 framed_runs f (Begins read) running = absurd running
@@ -137,10 +140,16 @@ called_runs : (world : World) (method : MethodId) (arguments rest : List SymValu
 called_runs world method arguments rest (Begins read) running = absurd running
 called_runs world method arguments rest (Runs frame callers) running = tt
 
-left_runs : (stage : Stage) → IsRunning stage → IsRunning (left_stage stage)
-left_runs (Begins read) running = absurd running
-left_runs (Runs frame []) running = tt
-left_runs (Runs frame (caller ∷ more)) running = tt
+left_runs : (count : ℕ) (stage : Stage) → IsRunning stage → IsRunning (left_stage count stage)
+left_runs count (Begins read) running = absurd running
+left_runs count (Runs frame callers) running = go (drop count (frame ∷ callers)) where
+  go : (frames : List SymFrame) → IsRunning (back_to (Runs frame callers) frames)
+  go [] = tt
+  go (first ∷ others) = tt
+
+pub read_runs : (value : SymValue) (stage : Stage) → IsRunning stage → IsRunning (with_read stage value)
+read_runs value (Begins read) running = absurd running
+read_runs value (Runs frame callers) running = tt
 
 pub begun_runs : (world : World) (state : State) (stage : Stage) → IsRunning (begun_stage world state stage)
 begun_runs world state (Begins read) = tt
@@ -152,7 +161,13 @@ module _ (world : World) (bounds : Bounds) (old : State) where
 
   module _ (within : old.carried < bounds.run.steps) where
     carries_few : (state : State) (f : SymFrame → SymFrame) → IsRunning state.stage → Few (carries_out state f)
-    carries_few state f running = (within, few_at world state.method (with_frame f state.stage) (framed_runs f state.stage running))
+    carries_few state f running = (within, few_at world (carries_out state f).state state.method (with_frame f state.stage) (framed_runs f state.stage running))
+
+    landed_few : (count target transfers : ℕ) (value : SymValue) (state : State) → IsRunning state.stage
+        → Few (carries_out (landed count value transfers state) (λ (f : SymFrame). record f { at = target }))
+    landed_few count target transfers value state running =
+        carries_few (landed count value transfers state) (λ (f : SymFrame). record f { at = target })
+        (framed_runs (λ (f : SymFrame). record f { stack = value ∷ []; transfers = transfers }) (left_stage count state.stage) (left_runs count state.stage running))
 
     pub went_few : (next : ℕ) (state : State) (way : Way) → IsRunning state.stage → Few (went world bounds next state way)
     went_few next state (WayGoes locals stack) running =
@@ -163,10 +178,14 @@ module _ (world : World) (bounds : Bounds) (old : State) where
         (option_has Few (counted bounds.run (offset_now state.stage) target (transfers_of state.stage)) _ _
         (λ n. carries_few state (λ (frame : SymFrame). record frame { at = target; stack = stack; transfers = n }) running) tt) tt
     went_few next state (Enters method arguments rest) running =
-        entered_has Few world bounds state method arguments rest (within, few_at world state.method (called_stage world method arguments rest state.stage) (called_runs world method arguments rest state.stage running)) tt
+        entered_has Few world bounds state method arguments rest (within, few_at world (carried_on (called world method arguments rest state)) state.method (called_stage world method arguments rest state.stage) (called_runs world method arguments rest state.stage running)) tt
     went_few next state (Leaves value) running =
-        returned_has Few world state value tt (λ caller more waits. carries_few (left state) (resumes world value) (left_runs state.stage running)) tt
-    went_few next state (Throws class) running = tt
+        returned_has Few world state value tt (λ caller more waits. carries_few (left 1 state) (resumes world value) (left_runs 1 state.stage running)) tt
+    went_few next state (Throws class) running =
+        thrown_has Few world bounds state (OfClass class) tt
+        (λ count target n frame callers is. landed_few count target n (New (length state.made)) (with_made world state class) running) tt tt
+    went_few next state (ThrowsThere object kind) running =
+        thrown_has Few world bounds state (There object kind) tt (λ count target n frame callers is. landed_few count target n (object_value object) state running) tt tt
     went_few next state Fails running = tt
 
     answers_few : (choice : Choice) (state : State) (found : Instr × ℕ) → IsRunning state.stage → Few (carried_out plan_of world bounds choice state found)

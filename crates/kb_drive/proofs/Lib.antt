@@ -38,4 +38,5 @@ pub mod WalkLaws
 pub mod WholeLaws
 pub mod IntsStay
 pub mod HeapMethodLaws
+pub mod HeapPlans
 pub mod HeapLaws

@@ -8,14 +8,14 @@ use Rattle.kb_picture.specs.declared.choice.Init.TheVariants.{Lazy}
 use Rattle.kb_frames.specs.declared.value.Outcome.{Outcome}
 use Rattle.kb_frames.specs.declared.value.Outcome.TheVariants.{Asks, Goes, Ends, Cut}
 use Rattle.kb_frames.specs.State.{State}
-use Rattle.kb_ways.specs.Reached.{HaveNoHandlers, IsAlone, IsReached}
+use Rattle.kb_ways.specs.Reached.{IsAlone, IsReached}
+use Rattle.kb_steparray.specs.Arrays.{AreCounted}
 use Rattle.kb_drive.specs.HeapMethods.{is_heap_method}
 
 pub record IsHeapReached (world : World) (state : State) : Type 0 where
   pub reached : IsReached world state
-  -- no method was called, and no method of its frames has handlers
+  -- no method was called
   pub alone : IsAlone state.method state.stage
-  pub unhandled : HaveNoHandlers world state.method state.stage
   pub linked : IsLinked world
   pub method : is_heap_method world state.method ≡ true
   -- every object is chosen when its reference is read, and none is left open
@@ -23,6 +23,8 @@ pub record IsHeapReached (world : World) (state : State) : Type 0 where
   pub known : state.picture.locs ≡ []
   -- a state that met an object deeper than k is cut
   pub within : HasNoBeyond state.picture
+  -- and so is one that met an array above the bound: an int counts the elements of each
+  pub bounded : AreCounted state.picture
 
 -- where the state goes on, it is such a one still
 abbrev pub GoesOnReached : World → State → Outcome → Type 0

@@ -2,10 +2,11 @@
 ghost use Rattle.std.specs.Prelude.{◌≡◌};
 ghost use Rattle.std.specs.List.{list_all};
 ghost use Rattle.kb_classes.specs.Slots.{has_slot_type};
-ghost use Rattle.kb_drive.specs.HeapMethods.{is_call_or_new, is_heap_code, is_heap_info, is_heap_instruction, is_heap_method, is_none_or_value};
+ghost use Rattle.kb_drive.specs.HeapMethods.{is_heap_code, is_heap_info, is_heap_instruction, is_heap_method, is_none_or_value, is_left_to_steps, loads_no_int};
 
 use kb_class::{MethodCode, MethodId, MethodInfo};
 use kb_code::Instr;
+use kb_frames::is_int_instruction;
 use kb_names::JType;
 use kb_ways::is_built_instruction;
 use kb_world::World;
@@ -89,15 +90,18 @@ fn is_heap_code(world: &World, method: MethodId, code: &MethodCode) -> bool
 fn is_heap_instruction(world: &World, method: MethodId, instr: &Instr) -> bool
     ensures { result ≡ is_heap_instruction world.now method instr.now }
 {
-    if is_call_or_new(instr) {
+    if is_left_to_steps(instr) {
+        return false;
+    }
+    if loads_no_int(world, method, instr) {
         return false;
     }
     is_built_instruction(world, method, instr)
 }
 
-// Calls and new objects are left to the steps for now.
-fn is_call_or_new(instr: &Instr) -> bool
-    ensures { result ≡ is_call_or_new instr.now }
+// Calls, new objects, athrow, arrays, casts and instanceof are left to the steps for now.
+fn is_left_to_steps(instr: &Instr) -> bool
+    ensures { result ≡ is_left_to_steps instr.now }
 {
     matches!(
         instr,
@@ -106,5 +110,23 @@ fn is_call_or_new(instr: &Instr) -> bool
             | Instr::Static(_)
             | Instr::Interface(_)
             | Instr::New(_)
+            | Instr::Throw
+            | Instr::LoadElem(_)
+            | Instr::StoreElem(_)
+            | Instr::Length
+            | Instr::NewPrim(_)
+            | Instr::NewRefs(_)
+            | Instr::Cast(_)
+            | Instr::InstanceOf(_)
     )
+}
+
+// So is ldc of what is no int.
+fn loads_no_int(world: &World, method: MethodId, instr: &Instr) -> bool
+    ensures { result ≡ loads_no_int world.now method instr.now }
+{
+    match instr {
+        Instr::Ldc(_) => !is_int_instruction(world, method, instr),
+        _ => false,
+    }
 }

@@ -17,12 +17,14 @@ ghost use Rattle.kb_frames.specs.Cuts.{setting_of};
 ghost use Rattle.kb_frames.specs.Next.{next_is_int};
 ghost use Rattle.kb_frames.specs.State.{State, start_state};
 ghost use Rattle.kb_lazy.specs.Laws.{AreInRange};
+ghost use Rattle.kb_stepint.specs.Laws.{OfTakes as IntTakes};
 ghost use Rattle.kb_stepint.specs.Takes.{taken as int_taken};
 ghost use Rattle.kb_stepref.specs.Choices.{choices_of as reference_choices};
-ghost use Rattle.kb_stepref.specs.Laws.{IsAtReferences};
+ghost use Rattle.kb_stepref.specs.Laws.{IsAtReferences, OfTakes as ReferenceTakes};
 ghost use Rattle.kb_stepref.specs.Takes.{taken as reference_taken};
 ghost use Rattle.kb_drive.specs.HeapMethods.{is_heap_method};
 ghost use Rattle.kb_drive.specs.Reached.{GoesOnReached, IsHeapReached};
+ghost use Rattle.kb_drive.specs.Steps.{EndsIn};
 ghost use Rattle.kb_drive.specs.Covers.{Covers};
 ghost use Rattle.kb_drive.specs.Within.{AreDecided, EndsOnPath, IsWithin, NoneThrows};
 
@@ -34,6 +36,13 @@ pub fn heap_methods_stay()
     ensures ints { (world : World) (bounds : Bounds) (state : State) (choice : Choice) → IsHeapReached world state → next_is_int world state ≡ true → IsPool (int_taken world bounds state choice).state.nodes → IsHeapReached world (int_taken world bounds state choice).state }
     ensures references { (world : World) (bounds : Bounds) (state : State) (choice : Choice) → AreInRange bounds → IsHeapReached world state → next_is_int world state ≡ false → Has (reference_choices world state bounds) choice → IsPool (reference_taken world bounds state choice).state.nodes → GoesOnReached world (reference_taken world bounds state choice).state (reference_taken world bounds state choice).outcome }
     ensures at { (world : World) (state : State) → IsHeapReached world state → next_is_int world state ≡ false → IsAtReferences world state }
+{}
+
+/// Where a step ends a run, the ending states what is there in the state, and what is thrown is an object: so it is of steps of ints
+/// (`ints`) and on references (`references`), whatever instruction comes next.
+pub fn endings_state_what_is_there()
+    ensures ints { IntTakes (λ world bounds state take. EndsIn world take.state take.outcome) }
+    ensures references { ReferenceTakes (λ world bounds state take. EndsIn world take.state take.outcome) }
 {}
 
 /// Where no listed path is undecided or open, each type-correct input that passes none of the bounds lies on an ended path,

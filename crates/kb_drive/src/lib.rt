@@ -25,7 +25,10 @@ mod walk;
 pub use explore::explore_from;
 pub use heap_methods::is_heap_method;
 pub use kb_rows::Row;
-pub use laws::{heap_methods_stay, inputs_within_the_bounds_end, none_throws_within_the_bounds};
+pub use laws::{
+    endings_state_what_is_there, heap_methods_stay, inputs_within_the_bounds_end,
+    none_throws_within_the_bounds,
+};
 pub use piece::Piece;
 pub(crate) use std::alloc::AllocError as NoMemory;
 pub use stop::DriveStop;

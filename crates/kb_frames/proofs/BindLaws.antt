@@ -47,6 +47,7 @@ use Rattle.kb_frames.specs.declared.state.Stage.{Stage}
 use Rattle.kb_frames.specs.declared.state.Stage.TheVariants.{Begins, Runs}
 use Rattle.kb_frames.specs.declared.value.Cell.{Cell}
 use Rattle.kb_frames.specs.declared.value.Cell.TheVariants.{Untouched}
+use Rattle.kb_frames.specs.Arrays.{array_next}
 use Rattle.kb_frames.specs.Bindings.{bound}
 use Rattle.kb_frames.specs.FirstReads.{cells_chosen, new_cells}
 use Rattle.kb_frames.specs.StandsFor.{StandsFor, reading_at}
@@ -54,6 +55,7 @@ use Rattle.kb_frames.specs.State.{State}
 use Rattle.kb_frames.specs.States.{AreCells, Each, HasCells, IsCell, IsStage, IsState, IsTouched}
 use Rattle.kb_frames.proofs.AlikeLaws.{stage_alike}
 use Rattle.kb_frames.proofs.CellLaws.{chosen_blank, front_touched}
+use Rattle.kb_frames.proofs.ChosenLaws.{chosen_alike, chosen_kept, made_kept}
 use Rattle.kb_frames.proofs.FindLaws.{Grows, PlacesGrown, grown_alike, learns_none, more_behind}
 use Rattle.kb_frames.proofs.ItemLaws.{each_copy, no_items}
 use Rattle.kb_frames.proofs.LearnLaws.{Learns, heap_learns, written_back, written_more}
@@ -184,6 +186,7 @@ module _ (world : World) (state : State) (sound : IsState world state) (number :
     stage = stage_more state.stage sound.stage;
     cells = are_cells;
     made = made_more world state new more state.made sound.made;
+    chosen = chosen_kept state new (record { objects = front; made = made_kept state.made }) state.chosen (array_next world state.method state.stage) sound.chosen;
   }
 
   -- ---- what it stands for
@@ -264,6 +267,7 @@ module _ (s : Setting) (state : State) (sound : IsState s.world state) (number :
           (λ has. written_more s.world state now one other heap more slot ((stands.written slot inside).0 has)),
           (λ k. (stands.written slot inside).1 (written_back s.world state now one other heap more slot k)),
         );
+        chosen = chosen_alike s.world state one other more.alike state.method state.stage state.chosen sound.stage stands.chosen;
       }
 
   pub stands_so_far : StandsFor s now input c ↔ HasShape now.picture input

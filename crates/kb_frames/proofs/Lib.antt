@@ -1,12 +1,13 @@
 pub mod StartLaws
-pub mod StackLaws
 pub mod BeginLaws
+pub mod FrameLaws
 pub mod MakingLaws
 pub mod StateLaws
 pub mod RunLaws
 pub mod FormedPaths
 pub mod ItemLaws
 pub mod AlikeLaws
+pub mod ChosenLaws
 pub mod CellLaws
 pub mod MoreLaws
 pub mod LearnLaws

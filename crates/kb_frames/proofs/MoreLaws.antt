@@ -60,7 +60,7 @@ module _ (world : World) (old new : State) (more : IsMore old new) where
   running_more frame callers h = (frame_more frame h.0, λ i caller at. frame_more caller (h.1 i caller at))
 
   pub made_more : (made : List SymObject) → Each (IsMade world old) made → Each (IsMade world new) made
-  made_more made each = λ i object at. let was = each i object at in record { count = was.count; values = values_more object.values was.values }
+  made_more made each = λ i object at. let was = each i object at in record { count = was.count; counted = was.counted; values = values_more object.values was.values }
 
 -- ---- rows of cells
 

@@ -62,4 +62,5 @@ start_stands s init method input = record {
     others = λ object inside none. refl;
   };
   written = λ slot inside. (λ has. absurd (nothing_there has.0 slot has.1), λ kept. absurd (nothing_there kept.object slot.object kept.place));
+  chosen = tt;
 }

@@ -53,4 +53,5 @@ start_is_state world init method info e = record {
     seen = λ i slot p. absurd (nothing_there i slot p);
   };
   made = λ i made p. absurd (nothing_there i made p);
+  chosen = tt;
 }

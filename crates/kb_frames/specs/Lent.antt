@@ -66,9 +66,13 @@ transferred state = on_frame (λ (frame : SymFrame). record frame { transfers = 
 
 -- ---- what is written elsewhere
 
--- one instruction more was carried out
+-- one instruction more was carried out: what it has chosen is no longer so
 abbrev pub carried_on : State → State
-carried_on state = record state { carried = state.carried + 1 }
+carried_on state = record state { carried = state.carried + 1; chosen = None }
+
+-- the place is chosen for the index of the present instruction
+abbrev pub placed : ℕ → State → State
+placed place state = record state { chosen = Some place }
 
 -- the terms are those of the pool
 abbrev pub with_nodes : State → List Node → State

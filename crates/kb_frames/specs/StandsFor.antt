@@ -1,10 +1,11 @@
 -- Which configurations a state stands for: those of the runs over its instances that have carried out as many instructions,
 -- with each symbolic value in the place of its value at the input (the simulation of a run by a symbolic one: King, 1976).
-use Rattle.std.specs.Prelude.{◌≡◌, ◌↔◌, ℕ, zero, suc, ◌+◌, ◌<◌, List, [], ◌∷◌, ◌++◌, length, map, take, drop, Option, Some, None, option_map, slice_get}
+use Rattle.std.specs.Prelude.{◌≡◌, ◌↔◌, ℕ, zero, suc, ◌+◌, ◌<◌, List, [], ◌∷◌, ◌++◌, length, map, take, drop, pos, Option, Some, None, option_map, slice_get, IfSome}
 use Rattle.std.specs.Option.{option_map_or}
 use Rattle.kb_blast.specs.Meaning.{AreMetInPool}
 use Rattle.kb_class.specs.Naming.{Has}
 use Rattle.kb_heap.specs.declared.heap.Value.{Value}
+use Rattle.kb_heap.specs.declared.heap.Value.TheVariants as heap_values
 use Rattle.kb_heap.specs.declared.heap.Object.{Object}
 use Rattle.kb_heap.specs.declared.heap.Heap.{Heap}
 use Rattle.kb_heap.specs.declared.heap.Input.{Input}
@@ -29,6 +30,7 @@ use Rattle.kb_frames.specs.declared.frame.SymFrame.{SymFrame}
 use Rattle.kb_frames.specs.declared.state.SymObject.{SymObject}
 use Rattle.kb_frames.specs.declared.state.Stage.{Stage}
 use Rattle.kb_frames.specs.declared.state.Stage.TheVariants.{Begins, Runs}
+use Rattle.kb_frames.specs.Arrays.{index_next}
 use Rattle.kb_frames.specs.State.{State, cell_at}
 
 -- ---- values
@@ -145,6 +147,12 @@ pub record IsKept (r : Reading) (state : State) (slot : Slot) : Type 0 where
   pub value : SymValue
   pub cell : cell_at state.cells object slot.slot ≡ Written value
 
+-- ---- the place that was chosen
+
+-- the index that the next instruction takes has the value of the place
+abbrev pub IsIndexNext : World → Reading → State → ℕ → Type 0
+IsIndexNext world r state place = option_map (value_of_sym r) (index_next world state.method state.stage) ≡ Some (heap_values.Int (pos place))
+
 -- ---- states
 
 -- A state stands for a configuration of an input's run.
@@ -157,3 +165,4 @@ pub record StandsFor (s : Setting) (state : State) (input : Input) (c : Config) 
   pub written : (slot : Slot) → slot.object < length input.heap.objects
       → Has (written_by s state.carried (beginning_of s.world state input)) slot
       ↔ IsKept (reading_at s.world state input instance_of.shape.places) state slot
+  pub chosen : IfSome state.chosen (IsIndexNext s.world (reading_at s.world state input instance_of.shape.places) state)

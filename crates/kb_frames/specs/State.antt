@@ -1,6 +1,6 @@
 -- Symbolic states (King, 1976; with the unknown heap of Khurshid, Păsăreanu and Visser, TACAS 2003): a configuration of the
 -- machine whose ints are terms and whose objects of the input are those of a picture.
-use Rattle.std.specs.Prelude.{ℕ, List, [], Bool}
+use Rattle.std.specs.Prelude.{ℕ, List, [], Bool, Option, None}
 use Rattle.std.specs.List.{slice_index_or}
 use Rattle.kb_class.specs.declared.ids.MethodId.{MethodId}
 use Rattle.kb_terms.specs.declared.node.TermId.{TermId}
@@ -16,7 +16,8 @@ use Rattle.kb_frames.specs.declared.state.Stage.TheVariants.{Begins}
 -- A state. Its run begins by reading its arguments, in order; then it has a current frame, and those of its callers from the
 -- nearest on. `method` is the one of whose run it is a state. `carried` counts the instructions that were carried out. The
 -- cells are those of the picture's objects, in order, `made` the objects of the run in the order of making. The terms are those
--- of a pool, and `when` the conditions in the order in which they were met.
+-- of a pool, and `when` the conditions in the order in which they were met. `chosen` is the place of an array that was chosen for
+-- the index of the present instruction: it has none when it begins, and none once it was carried out.
 pub record State : Type 0 where
   pub init : Init
   pub method : MethodId
@@ -27,6 +28,7 @@ pub record State : Type 0 where
   pub made : List SymObject
   pub nodes : List Node
   pub when : List (TermId × Bool)
+  pub chosen : Option ℕ
 
 -- the cell of a slot or an element; one that has none was not touched
 abbrev pub cell_at : List (List Cell) → ℕ → ℕ → Cell
@@ -45,4 +47,5 @@ start_state init method =
       made = [];
       nodes = [];
       when = [];
+      chosen = None;
     }

@@ -1,5 +1,5 @@
 -- What holds of every state to which `start` and later calls lead, and what a leaf has to keep to be that of such a state.
-use Rattle.std.specs.Prelude.{◌≡◌, ◌≢◌, ℕ, ◌<◌, ◌≤◌, List, length, map, Option, Some, None, slice_get}
+use Rattle.std.specs.Prelude.{◌≡◌, ◌≢◌, ℕ, ◌<◌, ◌≤◌, ◌^◌, List, length, map, Option, Some, None, slice_get, IfSome}
 use Rattle.kb_blast.specs.Query.{kinds_of, AreConditions}
 use Rattle.kb_blast.specs.Meaning.{OperandFits}
 use Rattle.kb_class.specs.declared.members.MethodInfo.{MethodInfo}
@@ -36,6 +36,7 @@ use Rattle.kb_frames.specs.declared.frame.SymFrame.{SymFrame}
 use Rattle.kb_frames.specs.declared.state.SymObject.{SymObject}
 use Rattle.kb_frames.specs.declared.state.Stage.{Stage}
 use Rattle.kb_frames.specs.declared.state.Stage.TheVariants.{Begins, Runs}
+use Rattle.kb_frames.specs.Arrays.{IsPlaceNext}
 use Rattle.kb_frames.specs.State.{State, cell_at}
 
 -- ---- values
@@ -100,8 +101,14 @@ pub record AreCells (world : World) (state : State) : Type 0 where
   -- a slot that the picture has seen is no longer untouched, so that it is not seen once more
   pub seen : (i : ℕ) (slot : Origin) → slice_get (slots_seen state.picture) i ≡ Some slot → IsTouched state.cells slot
 
+-- an int counts the elements of an array (JVMS 8 section 6.5, arraylength)
+abbrev pub IsCounted : ExactType → ℕ → Type 0
+IsCounted (exact.Class name) count = Unit {0}
+IsCounted (exact.Array component) count = count < 2 ^ 31
+
 pub record IsMade (world : World) (state : State) (made : SymObject) : Type 0 where
   pub count : HasValues world made.kind (length made.values)
+  pub counted : IsCounted made.kind (length made.values)
   pub values : Each (IsSymValue world state) made.values
 
 -- ---- states
@@ -121,6 +128,8 @@ pub record IsState (world : World) (state : State) : Type 0 where
   pub stage : IsStage world state state.stage
   pub cells : AreCells world state
   pub made : Each (IsMade world state) state.made
+  -- the place that was chosen is one of the array to which the next instruction has access
+  pub chosen : IfSome state.chosen (IsPlaceNext world state)
 
 -- ---- leaves, with the pool's numbers of terms
 

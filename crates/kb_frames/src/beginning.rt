@@ -4,11 +4,12 @@ ghost use Rattle.kb_frames.specs.Lent.{begun, begun_frame, begun_locals, read_co
 
 use crate::NoMemory;
 use crate::first_reads::numbered;
-use crate::frame::{SymCallers, SymFrame, SymStack};
+use crate::frame::SymFrame;
 use crate::state::{Stage, SymState};
 use crate::value::SymValue;
 use kb_class::MethodId;
 use kb_lookups::max_locals;
+use kb_pile::Pile;
 use kb_rows::Row;
 use kb_semantics::World;
 use std::alloc::Global;
@@ -31,7 +32,7 @@ impl SymState {
         let alloc = self.alloc;
         if let Stage::Begins(read) = &self.stage {
             let frame = begun_frame(alloc, world, self.method, read.as_slice())?;
-            self.stage = Stage::Runs(frame, SymCallers::new(alloc));
+            self.stage = Stage::Runs(frame, Pile::new(alloc));
         }
         Ok(())
     }
@@ -52,7 +53,7 @@ pub(crate) fn begun_frame(
         method,
         at: 0,
         locals,
-        stack: SymStack::new(alloc),
+        stack: Pile::new(alloc),
         transfers: 0,
     })
 }

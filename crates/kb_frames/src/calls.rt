@@ -1,12 +1,13 @@
-//! How frames come and go: a method is called with what lies on the stack, and its frame is left again.
+//! How frames come and go: a method is called with what lies on the stack, and frames are left again, by a return or a throw.
 ghost use Rattle.std.specs.Prelude.{◌≡◌, drop, length, option_map, reverse, slice_get, take, OnOk};
-ghost use Rattle.kb_frames.specs.declared.frame.SymFrame.{SymFrame as PlainFrame};
-ghost use Rattle.kb_frames.specs.Calls.{called, left};
+ghost use Rattle.kb_frames.specs.Calls.{called, frame_told, frames_of, landed, left};
 ghost use Rattle.kb_frames.specs.Lent.{callers_of, stack_of};
 
 use crate::NoMemory;
 use crate::beginning::begun_frame;
+use crate::frame::FrameAt;
 use crate::state::{Stage, SymState};
+use crate::value::SymValue;
 use kb_class::MethodId;
 use kb_semantics::World;
 use std::mem;
@@ -22,13 +23,20 @@ impl SymState {
         }
     }
 
-    /// The method of the nearest caller, and how many values wait on its stack; None where there is no caller.
-    pub fn caller(&self) -> Option<(MethodId, usize)>
-        ensures { result ≡ option_map (λ (caller : PlainFrame). (caller.method, length caller.stack)) (slice_get (callers_of self.now.stage) 0) }
+    /// What is told of the frame so deep, the current one being 0 and the nearest caller's 1; None where there is none. It takes
+    /// constant time.
+    pub fn frame_at(&self, depth: usize) -> Option<FrameAt>
+        ensures { result ≡ option_map frame_told (slice_get (frames_of self.now.stage) depth) }
     {
-        match &self.stage {
-            Stage::Begins(_) => None,
-            Stage::Runs(_, callers) => callers.nearest(),
+        let Stage::Runs(frame, callers) = &self.stage else {
+            return None;
+        };
+        if depth == 0 {
+            return Some(frame.told());
+        }
+        match callers.get(depth - 1) {
+            Some(caller) => Some(caller.told()),
+            None => None,
         }
     }
 
@@ -47,13 +55,34 @@ impl SymState {
         Ok(())
     }
 
-    /// Leaves the current frame for the nearest caller's. Where there is no caller, it stays. It takes constant time.
-    pub fn leave(&mut self)
-        ensures { self.new ≡ left self.old }
+    /// Leaves so many frames for that of the next caller. Where there are not so many callers, all stay. It takes time in
+    /// proportion to the frames that are left.
+    #[tactic(auto, using(crate::proofs::FrameLaws::past_first))]
+    pub fn leave(&mut self, count: usize)
+        ensures { self.new ≡ left count self.old }
     {
         if let Stage::Runs(frame, callers) = &mut self.stage {
-            if let Some(caller) = callers.pop() {
+            if count == 0 {
+                return;
+            }
+            if let Some(caller) = callers.pop_past(count - 1) {
                 *frame = caller;
+            }
+        }
+    }
+
+    /// Leaves so many frames, and the next one has nothing but the value on its stack, and counts so many transfers to an offset
+    /// not above one's own. It takes time in proportion to the frames that are left. After memory ran out the state is only
+    /// dropped.
+    pub fn land(&mut self, count: usize, value: SymValue, transfers: u32) -> Result<(), NoMemory>
+        ensures { OnOk result (self.new ≡ landed count value transfers self.old) }
+    {
+        self.leave(count);
+        match &mut self.stage {
+            Stage::Begins(_) => Ok(()),
+            Stage::Runs(frame, _) => {
+                frame.transfers = transfers;
+                frame.stack.hold(value)
             }
         }
     }

@@ -1,92 +1,13 @@
 //! The frames of a state (The Java Virtual Machine Specification, Java SE 8 Edition, section 2.6).
-ghost use Rattle.std.specs.Prelude.{◌≡◌, [], ◌∷◌, drop, length, option_map, reverse, slice_get, slice_set, take, Some, IfOk, IfSome, IfNone, OnOk, OnErr};
-ghost use Rattle.kb_frames.specs.declared.frame.SymFrame.{SymFrame as PlainFrame};
+ghost use Rattle.std.specs.Prelude.{◌≡◌, slice_set, Some, IfOk};
+ghost use Rattle.kb_frames.specs.Calls.{frame_told};
 
 use crate::NoMemory;
 use crate::value::SymValue;
 use kb_class::MethodId;
+use kb_pile::Pile;
 use kb_rows::Row;
 use std::alloc::Global;
-use std::marker::Model;
-
-/// An operand stack. Contracts see the list of its values from the top down.
-#[derive(Drop)]
-pub(crate) struct SymStack {
-    values: Vec<SymValue>,
-}
-
-impl Model for SymStack {
-    ghost use Rattle.std.specs.Prelude.{List, reverse};
-    ghost use Rattle.kb_frames.specs.declared.value.SymValue.{SymValue as Item};
-
-    ghost Value = { List Item };
-
-    ghost view = { λ s. reverse s.values.items };
-}
-
-impl SymStack {
-    pub(crate) fn copied(&self, alloc: Global) -> Result<SymStack, NoMemory>
-        ensures { IfOk result (λ copy. copy ≡ self.now) }
-    {
-        let values = self.values.as_slice().to_vec(alloc)?;
-        Ok(SymStack { values })
-    }
-
-    /// The stack of no values. It takes no memory.
-    pub(crate) fn new(alloc: Global) -> SymStack
-        ensures { result ≡ [] }
-    {
-        SymStack {
-            values: Vec::new(alloc),
-        }
-    }
-
-    pub(crate) fn height(&self) -> usize
-        ensures { result ≡ length self.now }
-    {
-        self.values.len()
-    }
-
-    /// The value so deep, the top being 0.
-    #[tactic(auto, using(crate::proofs::StackLaws::from_top))]
-    pub(crate) fn value_at(&self, depth: usize) -> Option<SymValue>
-        ensures { result ≡ slice_get self.now depth }
-    {
-        let height = self.values.len();
-        if depth >= height {
-            return None;
-        }
-        Some(self.values[height - 1 - depth])
-    }
-
-    pub(crate) fn push(&mut self, value: SymValue) -> Result<(), NoMemory>
-        ensures ok { OnOk result (self.new ≡ value ∷ self.old) }
-        ensures err { OnErr result (self.new ≡ self.old) }
-    {
-        match self.values.push(value) {
-            Ok(()) => Ok(()),
-            Err(_) => Err(NoMemory),
-        }
-    }
-
-    /// So many values from the top, the lowest one first.
-    #[tactic(auto, using(crate::proofs::StackLaws::top_right))]
-    pub(crate) fn top(&self, count: usize) -> &[SymValue]
-        ensures { result.now ≡ reverse (take count self.now) }
-    {
-        let kept = self.values.len().saturating_sub(count);
-        &self.values[kept..]
-    }
-
-    /// Takes so many values off the top.
-    #[tactic(auto, using(crate::proofs::StackLaws::rest_left))]
-    pub(crate) fn pop(&mut self, count: usize)
-        ensures { self.new ≡ drop count self.old }
-    {
-        let kept = self.values.len().saturating_sub(count);
-        self.values.truncate(kept);
-    }
-}
 
 /// A frame. A local that was never written is None. `transfers` counts the transfers of control to an offset not above one's
 /// own. A caller's frame stands at its invoke.
@@ -96,16 +17,37 @@ pub(crate) struct SymFrame {
     /// The offset of the instruction.
     pub(crate) at: u32,
     pub(crate) locals: Row<Option<SymValue>>,
-    pub(crate) stack: SymStack,
+    pub(crate) stack: Pile<SymValue>,
     pub(crate) transfers: u32,
 }
 
+/// What is told of a frame: its method, the offset of its instruction, how many values its stack has, and how often it was
+/// transferred to an offset not above its own.
+#[derive(Clone, Copy)]
+pub struct FrameAt {
+    pub method: MethodId,
+    pub at: u32,
+    pub height: usize,
+    pub transfers: u32,
+}
+
 impl SymFrame {
+    pub(crate) fn told(&self) -> FrameAt
+        ensures { result ≡ frame_told self.now }
+    {
+        FrameAt {
+            method: self.method,
+            at: self.at,
+            height: self.stack.len(),
+            transfers: self.transfers,
+        }
+    }
+
     pub(crate) fn copied(&self, alloc: Global) -> Result<SymFrame, NoMemory>
         ensures { IfOk result (λ copy. copy ≡ self.now) }
     {
         let locals = self.locals.as_slice().to_vec(alloc)?;
-        let stack = self.stack.copied(alloc)?;
+        let stack = Pile::from_vec(self.stack.as_slice().to_vec(alloc)?);
         Ok(SymFrame {
             method: self.method,
             at: self.at,
@@ -126,74 +68,15 @@ impl SymFrame {
     }
 }
 
-/// The frames of the callers. Contracts see the list of them from the nearest on.
-#[derive(Drop)]
-pub(crate) struct SymCallers {
-    frames: Vec<SymFrame>,
-}
-
-impl Model for SymCallers {
-    ghost use Rattle.std.specs.Prelude.{List, reverse};
-    ghost use Rattle.kb_frames.specs.declared.frame.SymFrame.{SymFrame as Item};
-
-    ghost Value = { List Item };
-
-    ghost view = { λ c. reverse c.frames.items };
-}
-
-impl SymCallers {
-    /// No callers. It takes no memory.
-    pub(crate) fn new(alloc: Global) -> SymCallers
-        ensures { result ≡ [] }
-    {
-        SymCallers {
-            frames: Vec::new(alloc),
-        }
-    }
-
-    pub(crate) fn copied(&self, alloc: Global) -> Result<SymCallers, NoMemory>
-        ensures { IfOk result (λ copy. copy ≡ self.now) }
-    {
-        let frames = copied_frames(alloc, self.frames.as_slice())?;
-        Ok(SymCallers {
-            frames: frames.into_vec(),
-        })
-    }
-
-    pub(crate) fn len(&self) -> usize
-        ensures { result ≡ length self.now }
-    {
-        self.frames.len()
-    }
-
-    /// The method of the nearest one, and the height of its stack.
-    #[tactic(auto, using(crate::proofs::StackLaws::last_is))]
-    pub(crate) fn nearest(&self) -> Option<(MethodId, usize)>
-        ensures { result ≡ option_map (λ (caller : PlainFrame). (caller.method, length caller.stack)) (slice_get self.now 0) }
-    {
-        match self.frames.as_slice().last() {
-            Some(caller) => Some((caller.method, caller.stack.height())),
-            None => None,
-        }
-    }
-
-    pub(crate) fn push(&mut self, frame: SymFrame) -> Result<(), NoMemory>
-        ensures { OnOk result (self.new ≡ frame ∷ self.old) }
-    {
-        match self.frames.push(frame) {
-            Ok(()) => Ok(()),
-            Err(_) => Err(NoMemory),
-        }
-    }
-
-    /// Takes off the nearest one.
-    pub(crate) fn pop(&mut self) -> Option<SymFrame>
-        ensures some { IfSome result (λ frame. self.old ≡ frame ∷ self.new) }
-        ensures none { IfNone result (self.old ≡ []) }
-        ensures left { IfNone result (self.new ≡ []) }
-    {
-        self.frames.pop()
-    }
+/// A copy of callers' frames.
+pub(crate) fn copied_callers(
+    alloc: Global,
+    callers: &Pile<SymFrame>,
+) -> Result<Pile<SymFrame>, NoMemory>
+    ensures { IfOk result (λ copy. copy ≡ callers.now) }
+{
+    let frames = copied_frames(alloc, callers.as_slice())?;
+    Ok(Pile::from_vec(frames.into_vec()))
 }
 
 fn copied_frames(alloc: Global, frames: &[SymFrame]) -> Result<Row<SymFrame>, NoMemory>

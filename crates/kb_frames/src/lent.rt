@@ -2,7 +2,7 @@
 ghost use Rattle.std.specs.Prelude.{◌≡◌, ◌+◌, ◌<◌, ◌^◌, length, reverse, slice_get, take, IfOk, OnOk, OnErr};
 ghost use Rattle.kb_terms.specs.Terms.{AreOperands, HasNode, Extends, made_node};
 ghost use Rattle.kb_terms.specs.declared.node.Node.TheVariants.{Const};
-ghost use Rattle.kb_frames.specs.Lent.{stack_of, local_in, transfers_of, pushed, popped, stored, moved, transferred, carried_on, with_nodes};
+ghost use Rattle.kb_frames.specs.Lent.{stack_of, local_in, transfers_of, pushed, popped, stored, moved, transferred, carried_on, placed, with_nodes};
 
 use crate::NoMemory;
 use crate::state::{Stage, SymState};
@@ -51,7 +51,7 @@ impl SymState {
     {
         match &self.stage {
             Stage::Begins(_) => 0,
-            Stage::Runs(frame, _) => frame.stack.height(),
+            Stage::Runs(frame, _) => frame.stack.len(),
         }
     }
 
@@ -61,7 +61,7 @@ impl SymState {
     {
         match &self.stage {
             Stage::Begins(_) => None,
-            Stage::Runs(frame, _) => frame.stack.value_at(depth),
+            Stage::Runs(frame, _) => frame.stack.get(depth).copied(),
         }
     }
 
@@ -148,12 +148,27 @@ impl SymState {
         }
     }
 
-    /// Counts an instruction that was carried out.
+    /// Counts an instruction that was carried out. What it has chosen is no longer so.
     pub fn count_instruction(&mut self)
         requires { self.old.carried + 1 < 2 ^ 32 }
         ensures { self.new ≡ carried_on self.old }
     {
         self.carried += 1;
+        self.chosen = None;
+    }
+
+    /// The place that was chosen for the index of the present instruction.
+    pub fn chosen(&self) -> Option<u32>
+        ensures { result ≡ self.now.chosen }
+    {
+        self.chosen
+    }
+
+    /// Chooses a place for the index of the present instruction.
+    pub fn choose_place(&mut self, place: u32)
+        ensures { self.new ≡ placed place self.old }
+    {
+        self.chosen = Some(place);
     }
 
     /// The term that is this constant.

@@ -19,6 +19,7 @@ mod state;
 mod truths;
 mod value;
 
+pub use frame::FrameAt;
 pub use kb_kinds::{is_int_instruction, is_reference, variable_kind};
 pub use kb_numbered::PathStop;
 pub use laws::{paths_are_well_formed, states_begin, states_bind, values_resolve};

@@ -1,11 +1,13 @@
 //! Objects that a run makes.
-ghost use Rattle.std.specs.Prelude.{◌≡◌, pos, length, map, IfOk, OnOk};
+ghost use Rattle.std.specs.Prelude.{◌≡◌, pos, length, map, replicate, IfOk, OnOk};
 ghost use Rattle.kb_classes.specs.declared.slots.FieldSlot.{FieldSlot as PlainSlot};
 ghost use Rattle.kb_terms.specs.Terms.{interned};
 ghost use Rattle.kb_terms.specs.declared.node.Node.TheVariants.{Const};
-ghost use Rattle.kb_frames.specs.Making.{default_sym, new_sym_object, with_made};
+ghost use Rattle.kb_frames.specs.Making.{default_sym, new_sym_array, new_sym_object, with_array, with_made};
 
 use crate::NoMemory;
+use crate::beginning::add_equal;
+use crate::first_reads::numbered;
 use crate::state::{SymObject, SymState};
 use crate::value::SymValue;
 use kb_heap::Value;
@@ -24,11 +26,23 @@ impl SymState {
         ensures state { OnOk result (self.new ≡ with_made world.now self.old class.now) }
     {
         let alloc = self.alloc;
-        let Ok(number) = u32::try_from(self.made.as_slice().len()) else {
-            return Err(NoMemory);
-        };
+        let number = numbered(self.made.as_slice().len())?;
         let zero = self.zero()?;
         self.made.push(new_object(alloc, world, class, zero)?)?;
+        Ok(number)
+    }
+
+    /// Adds an array of so many elements to the objects that the run has made, each element with the default value of the
+    /// component, and gives its number. It takes time in proportion to the elements. After memory ran out the state is only
+    /// dropped.
+    pub fn make_array(&mut self, component: &JType, count: u32) -> Result<u32, NoMemory>
+        ensures number { IfOk result (λ number. number ≡ length self.old.made) }
+        ensures state { OnOk result (self.new ≡ with_array self.old component.now count) }
+    {
+        let alloc = self.alloc;
+        let number = numbered(self.made.as_slice().len())?;
+        let zero = self.zero()?;
+        self.made.push(new_array(alloc, component, count, zero)?)?;
         Ok(number)
     }
 
@@ -57,6 +71,32 @@ fn new_object(
         kind: ExactType::Class(name),
         values,
     })
+}
+
+// A new array of so many elements.
+fn new_array(
+    alloc: Global,
+    component: &JType,
+    count: u32,
+    zero: TermId,
+) -> Result<SymObject, NoMemory>
+    ensures { IfOk result (λ object. object ≡ new_sym_array component.now count zero) }
+{
+    let kind = component.copied(alloc)?;
+    let values = equal_values(alloc, default_sym(component, zero), count as usize)?;
+    Ok(SymObject {
+        kind: ExactType::Array(kind),
+        values,
+    })
+}
+
+// So many equal values.
+fn equal_values(alloc: Global, value: SymValue, count: usize) -> Result<Row<SymValue>, NoMemory>
+    ensures { IfOk result (λ values. values ≡ replicate count value) }
+{
+    let mut values = Row::new(alloc);
+    add_equal(count, value, &mut values)?;
+    Ok(values)
 }
 
 // The default value of each slot.

@@ -8,12 +8,13 @@ ghost use Rattle.kb_frames.specs.State.{start_state};
 ghost use Rattle.kb_frames.specs.StandsFor.{StandsFor};
 
 use crate::NoMemory;
-use crate::frame::{SymCallers, SymFrame};
+use crate::frame::{SymFrame, copied_callers};
 use crate::value::{Cell, SymValue};
 use kb_class::MethodId;
 use kb_names::ExactType;
 use kb_numbered::Conditions;
 use kb_picture::{GrowingPicture, Init};
+use kb_pile::Pile;
 use kb_rows::{Held, Row};
 use kb_semantics::World;
 use kb_terms::Pool;
@@ -67,7 +68,7 @@ pub(crate) enum Stage {
     /// It reads its arguments, in order: those that were read.
     Begins(Row<SymValue>),
     /// It has a current frame, and those of its callers.
-    Runs(SymFrame, SymCallers),
+    Runs(SymFrame, Pile<SymFrame>),
 }
 
 impl Stage {
@@ -77,7 +78,7 @@ impl Stage {
         match self {
             Stage::Begins(read) => Ok(Stage::Begins(Row::from_vec(read.as_slice().to_vec(alloc)?))),
             Stage::Runs(frame, callers) => {
-                Ok(Stage::Runs(frame.copied(alloc)?, callers.copied(alloc)?))
+                Ok(Stage::Runs(frame.copied(alloc)?, copied_callers(alloc, callers)?))
             }
         }
     }
@@ -115,6 +116,8 @@ pub struct SymState {
     pub(crate) pool: Pool,
     /// The conditions, in the order in which they were met.
     pub(crate) when: Conditions,
+    /// The place of an array that was chosen for the index of the present instruction.
+    pub(crate) chosen: Option<u32>,
 }
 
 impl Model for SymState {
@@ -122,7 +125,7 @@ impl Model for SymState {
 
     ghost Value = { State };
 
-    ghost view = { λ s. record { init = s.init; method = s.method; stage = s.stage; carried = s.carried; picture = s.picture; cells = s.cells; made = s.made; nodes = s.pool; when = s.when } };
+    ghost view = { λ s. record { init = s.init; method = s.method; stage = s.stage; carried = s.carried; picture = s.picture; cells = s.cells; made = s.made; nodes = s.pool; when = s.when; chosen = s.chosen } };
 }
 
 /// The state before the arguments are read: it stands for the beginning of each run of the method. Nothing is read of the
@@ -153,6 +156,7 @@ fn first_state(alloc: Global, method: MethodId, init: Init) -> SymState
         made: Row::new(alloc),
         pool: Pool::new(alloc),
         when: Conditions::new(alloc),
+        chosen: None,
     }
 }
 
@@ -207,6 +211,7 @@ impl SymState {
             made: heaps.made,
             pool: truths.nodes,
             when: truths.when,
+            chosen: self.chosen,
         }
     }
 }

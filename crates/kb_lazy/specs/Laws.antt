@@ -31,8 +31,10 @@ HasNoBeyond picture = (slot : Origin) → IsBeyond picture slot → ⊥
 abbrev pub IsInRange : ℕ → Type 0
 IsInRange array = suc array < 2 ^ 31
 
-abbrev pub AreInRange : Bounds → Type 0
-AreInRange bounds = IsInRange bounds.array
+-- arrays of the input and arrays that a run makes
+pub record AreInRange (bounds : Bounds) : Type 0 where
+  pub array : IsInRange bounds.array
+  pub alloc : IsInRange bounds.run.alloc
 
 -- In a well-formed picture of a method a slot of that declared type, a reference, is read for the first time; it is the
 -- receiver's exactly where `receiver` is true.

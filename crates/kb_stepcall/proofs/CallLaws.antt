@@ -1,66 +1,45 @@
 -- What a call does to a state is what it does to the configuration, with each symbolic value in the place of its value: so a
 -- step that calls goes where the machine's step goes.
-use Rattle.std.proofs.Common.{◌≡◌, ℕ, zero, suc, ◌+◌, Bool, true, false, List, [], ◌∷◌, ◌++◌, length, map, drop, take, reverse, is_some, slice_get, Option, Some, None, refl, sym, ap, subst, ◌∙◌, if◌then◌else◌}
+use Rattle.std.proofs.Common.{◌≡◌, ℕ, zero, suc, ◌+◌, Bool, true, false, List, [], ◌∷◌, ◌++◌, length, drop, take, reverse, is_some, slice_get, Option, Some, None, refl, sym, ap, subst, ◌∙◌, if◌then◌else◌, map}
 use Rattle.std.specs.Option.{option_map, option_map_or, option_and_then}
 use Rattle.std.proofs.lemmas.List.{reverse-append}
 use Rattle.std.proofs.lemmas.Option.{none-some, same_Some}
 use Rattle.kb_arith.specs.Word.{truth}
-use Rattle.kb_class.specs.declared.ids.MethodId.{MethodId}
 use Rattle.kb_class.specs.declared.members.MethodInfo.{MethodInfo}
 use Rattle.kb_names.specs.declared.types.ExactType.{ExactType}
 use Rattle.kb_heap.specs.declared.bounds.Bounds.{Bounds}
-use Rattle.kb_heap.specs.declared.heap.Input.{Input}
 use Rattle.kb_heap.specs.declared.heap.Object.{Object}
 use Rattle.kb_heap.specs.declared.heap.Value.{Value}
-use Rattle.kb_heap.specs.declared.heap.Value.TheVariants.{Int as IntValue}
-use Rattle.kb_heap.specs.Heap.{object_at, literal}
+use Rattle.kb_heap.specs.declared.heap.Value.TheVariants.{Int as IntValue, Ref}
+use Rattle.kb_heap.specs.Heap.{object_at}
 use Rattle.kb_classes.specs.World.{World}
 use Rattle.kb_world.specs.Calls.{is_without_file, resolved_method, selected_special}
 use Rattle.kb_resolution.specs.Lookup.{only_where}
-use Rattle.kb_semantics.specs.Config.{Setting, Config, Frame, Outcome, class_number, info_of}
-use Rattle.kb_semantics.specs.Inputs.{IsTypeCorrect}
+use Rattle.kb_semantics.specs.Config.{Setting, Config, Outcome, class_number, info_of}
 use Rattle.kb_semantics.specs.Instructions.{CallKind, BySelection, Special, Static, Callee, callee_at, invoke, is_equals, same_reference, selected_at, with, here as machine_here, invokes as machine_invokes, on_object as on_machine_object, operands_of as machine_operands}
 use Rattle.kb_semantics.specs.Looks.{stores}
 use Rattle.kb_semantics.specs.Operands.{Taken, argument_of as machine_argument, receiver_of as machine_receiver}
 use Rattle.kb_semantics.specs.Step.{step}
-use Rattle.kb_semantics.specs.Ways.{enters, goes, goes_on, ill_typed, null_pointer, pushed, throws}
-use Rattle.kb_terms.specs.declared.node.Node.{Node}
-use Rattle.kb_terms.specs.declared.node.Node.TheVariants.{Const}
-use Rattle.kb_terms.specs.declared.node.TermId.{TermId}
-use Rattle.kb_terms.specs.Terms.{Extends, interned}
-use Rattle.kb_terms.proofs.Values.{Extends-refl}
-use Rattle.kb_picture.specs.declared.picture.PicObject.{PicObject}
-use Rattle.kb_picture.specs.declared.picture.PlaceLists.{PlaceLists}
-use Rattle.kb_picture.specs.Endings.{Reading, place_at}
-use Rattle.kb_picture.specs.Instances.{variable_values}
-use Rattle.kb_frames.specs.declared.frame.SymFrame.{SymFrame}
-use Rattle.kb_frames.specs.declared.state.Stage.TheVariants.{Runs}
-use Rattle.kb_frames.specs.declared.state.SymObject.{SymObject}
+use Rattle.kb_semantics.specs.Ways.{enters, goes, ill_typed, null_pointer, pushed, throws}
+use Rattle.kb_picture.specs.Endings.{Reading}
 use Rattle.kb_frames.specs.declared.value.SymValue.{SymValue}
 use Rattle.kb_frames.specs.declared.value.SymValue.TheVariants.{Int, Null, Obj, Literal, New, Loc}
 use Rattle.kb_frames.specs.Cuts.{setting_of}
-use Rattle.kb_frames.specs.Lent.{with_nodes}
-use Rattle.kb_frames.specs.StandsFor.{FrameStandsFor, FramesStandFor, IsInstanceOf, StandsFor, made_at, reading_at, value_of_sym, values_of_sym}
+use Rattle.kb_frames.specs.StandsFor.{reading_at, value_of_sym, values_of_sym}
 use Rattle.kb_frames.specs.State.{State}
 use Rattle.kb_frames.specs.States.{Each, IsSymValue}
 use Rattle.kb_frames.proofs.ItemLaws.{each_append, each_cons, each_drop, each_rest, no_items}
 use Rattle.kb_ways.specs.Identity.{same}
-use Rattle.kb_ways.specs.Plans.{Planned, followed, plain, planned}
-use Rattle.kb_ways.specs.Reached.{HaveNoHandlers}
-use Rattle.kb_ways.specs.Simulation.{IsOutcome}
-use Rattle.kb_ways.specs.Ways.{Take, Way, Enters, Fails, Throws, went, with_stack}
-use Rattle.kb_ways.proofs.GrowLaws.{interned_extends}
-use Rattle.kb_ways.proofs.LocalLaws.{led_to}
-use Rattle.kb_ways.proofs.OutcomeValues.{IsLater, frame_later, frames_later, reading_int, reading_later, there, values_later}
-use Rattle.kb_ways.proofs.OutcomeWays.{went_is}
-use Rattle.kb_ways.proofs.SoundLaws.{Sound}
-use Rattle.kb_ways.proofs.ValueLaws.{constant_made}
-use Rattle.kb_stepcall.specs.Calls.{calls, calls_method, calls_on, here, invokes, on_object, receiver_type, selected_for}
+use Rattle.kb_ways.specs.Plans.{Planned, followed, plain, planned, here}
+use Rattle.kb_ways.specs.Ways.{Enters, Fails, Throws, with_stack}
+use Rattle.kb_stepcall.specs.Calls.{calls, calls_method, calls_on, invokes, on_object, selected_for}
+use Rattle.kb_ways.specs.Types.{object_type}
+use Rattle.kb_ways.proofs.PlannedLaws.{Follows, IsPlan, Situation, fails_is, if_is, number_is, plain_is, plan_follows, so, stack_is, state_of, there_is, with_is, with_same}
 use Rattle.kb_stepcall.specs.Operands.{are_of_kinds, argument_of, operand_types, operands_of, receiver_of, reference_at, topmost}
 use Rattle.kb_stepcall.specs.Platform.{answers_at_once, equals}
-use Rattle.kb_stepcall.proofs.ObjectLaws.{literal_there, made_there, no_loc, object_placed, place_is, same_is}
+use Rattle.kb_ways.proofs.ObjectLaws.{object_there, same_is}
 use Rattle.kb_stepcall.proofs.OperandLaws.{given, is_reference_at, operands_are, reference_at_is}
-use Rattle.kb_stepcall.proofs.ReferenceLaws.{IsReference, reference_kind, referred}
+use Rattle.kb_ways.proofs.ReferenceLaws.{IsReference, referred}
 use Rattle.kb_ways.specs.Operands.{reference}
 use Rattle.kb_ways.proofs.KeptLaws.{reference_is}
 
@@ -93,100 +72,43 @@ there_at world state args place each = go (reference (slice_get args place)) ref
 
 -- ---- in a frame
 
-module _ (world : World) (bounds : Bounds) (base : State) (frame : SymFrame) (callers : List SymFrame) (sound : Sound world (record base { stage = Runs frame callers })) (known : base.picture.locs ≡ [])
-    (unhandled : HaveNoHandlers world base.method (Runs frame callers)) (input : Input) (correct : IsTypeCorrect world base.method input) (c : Config)
-    (stands : StandsFor (setting_of world bounds) (record base { stage = Runs frame callers }) input c) (next : ℕ) where
+module _ (world : World) (bounds : Bounds) (at : Situation world bounds) (next : ℕ) where
   abbrev s : Setting
   s = setting_of world bounds
 
-  abbrev state : State
-  state = record base { stage = Runs frame callers }
+  abbrev c : Config
+  c = at.config
 
-  abbrev places : PlaceLists
-  places = stands.instance_of.shape.places
+  abbrev state : State
+  state = state_of world bounds at
 
   abbrev r : Reading
-  r = reading_at world state input places
-
-  framed : FrameStandsFor r frame c.frame
-  framed = stands.stage.0
+  r = reading_at world state at.input at.stands.instance_of.shape.places
 
   abbrev V : List SymValue → List Value
   V values = values_of_sym r values
 
-  -- with more terms
-  abbrev later : List Node → Reading
-  later nodes = reading_at world (with_nodes state nodes) input places
-
-  is_later : (nodes : List Node) → Extends state.nodes nodes → IsLater r (later nodes) state.nodes
-  is_later nodes more = reading_later world state (with_nodes state nodes) input places refl more
-
-  framed_later : (nodes : List Node) → Extends state.nodes nodes → FrameStandsFor (later nodes) frame c.frame
-  framed_later nodes more = frame_later world state r (later nodes) (is_later nodes more) frame c.frame sound.stage.0 framed
-
-  waiting_later : (nodes : List Node) → Extends state.nodes nodes → FramesStandFor (later nodes) callers c.callers
-  waiting_later nodes more = frames_later world state r (later nodes) (is_later nodes more) callers c.callers sound.stage.1 stands.stage.1
-
-  -- ---- plans
-
-  -- The plan makes terms at most, and leads where the machine goes.
-  abbrev IsPlan : Outcome → Planned → Type 0
-  IsPlan outcome plan = (nodes : List Node) × Extends state.nodes nodes × (plan.state ≡ with_nodes state nodes) × (outcome ≡ led_to s c next (later nodes) plan.way)
-
-  so : (one other : Outcome) (plan : Planned) → one ≡ other → IsPlan other plan → IsPlan one plan
-  so one other plan e is = (is.0, is.1, is.2, e ∙ is.3)
-
-  plain_is : (outcome : Outcome) (way : Way) → outcome ≡ led_to s c next r way → IsPlan outcome (plain state way)
-  plain_is outcome way e = (state.nodes, Extends-refl state.nodes, refl, e)
-
-  if_is : (b : Bool) (one other : Outcome) (plan also : Planned) → IsPlan one plan → IsPlan other also → IsPlan (if b then one else other) (if b then plan else also)
-  if_is true one other plan also is h = is
-  if_is false one other plan also is h = h
-
-  -- where there is something in the state, and in the configuration what it is there
-  with_is : {A B : Type 0} (g : A → B) (f : B → Outcome) (plan : A → Planned) (it : Option A) → ((x : A) → it ≡ Some x → IsPlan (f (g x)) (plan x))
-      → IsPlan (with s c (option_map g it) f) (planned state it plan)
-  with_is g f plan None h = plain_is (ill_typed s c) Fails refl
-  with_is g f plan (Some x) h = h x refl
-
-  -- or the same in both
-  with_same : {A : Type 0} (f : A → Outcome) (plan : A → Planned) (it : Option A) → ((x : A) → IsPlan (f x) (plan x)) → IsPlan (with s c it f) (planned state it plan)
-  with_same f plan None h = plain_is (ill_typed s c) Fails refl
-  with_same f plan (Some x) h = h x
-
-  -- ---- it goes on
-
-  goes_is : (nodes : List Node) → Extends state.nodes nodes → (stack : List SymValue) (values : List Value) → values ≡ values_of_sym (later nodes) stack
-      → goes s c next values ≡ led_to s c next (later nodes) (with_stack state stack)
-  goes_is nodes more stack values e =
-      ap (λ (l : List (Option Value)). goes_on s c next l values c.heap) (framed_later nodes more).locals
-      ∙ ap (λ (vs : List Value). goes_on s c next (map (option_map (value_of_sym (later nodes))) frame.locals) vs c.heap) e
+  abbrev Is : Outcome → Planned → Type 0
+  Is outcome plan = IsPlan world bounds at next outcome plan
 
   -- ---- an object
 
-  there_is : (o : ℕ) (object : Object) (f : Object → Outcome) (plan : Planned) → object_at c.heap o ≡ Some object → IsPlan (f object) plan → IsPlan (with s c (object_at c.heap o) f) plan
-  there_is o object f plan e is = so (with s c (object_at c.heap o) f) (f object) plan (ap (λ (it : Option Object). with s c it f) e) is
+  -- an object, of its exact type
+  named_is : (receiver : SymValue) (o : ℕ) → IsSymValue world state receiver → value_of_sym r receiver ≡ Ref o → (f : Object → Outcome) (plan : Planned)
+      → ((object : Object) → object_type state receiver ≡ Some object.kind → Is (f object) plan) → Is (with s c (object_at c.heap o) f) plan
+  named_is receiver o is e f plan h =
+      let it = object_there world state at.sound.cells at.known at.input at.correct at.stands.instance_of.shape c.heap at.stands.heap receiver o is e in
+      there_is world bounds at next o it.object f plan it.found (h it.object it.kind)
 
-  -- a receiver that is not null is an object of its exact type
+  -- a receiver that is not null is one
   object_is : (receiver : SymValue) → IsReference receiver → IsSymValue world state receiver → (f : Object → Outcome) (plan : Planned)
-      → ((object : Object) → receiver_type state receiver ≡ Some object.kind → IsPlan (f object) plan) → IsPlan (on_machine_object s c (referred r receiver) (λ o object. f object)) (on_object state receiver plan)
-  unfolding reading_at
+      → ((object : Object) → object_type state receiver ≡ Some object.kind → Is (f object) plan) → Is (on_machine_object s c (referred r receiver) (λ o object. f object)) (on_object state receiver plan)
   object_is (Int t) kind is f plan h = absurd kind
-  object_is Null kind is f plan h = plain_is (throws s c null_pointer) (Throws null_pointer) refl
-  object_is (Obj n) kind is f plan h =
-      let object = there state.picture.objects n is in
-      let p = object_placed world state sound.cells known input correct stands.instance_of.shape c.heap stands.heap n object.0 object.1 in
-      there_is (place_at places.objects n) p.object f plan
-      (ap (object_at c.heap) (place_is world state sound.cells known input correct stands.instance_of.shape c.heap stands.heap n object.0 p) ∙ p.found)
-      (h p.object (ap (option_map (λ (o : PicObject). o.kind)) object.1 ∙ ap (λ (k : ExactType). Some k) (sym p.kind)))
-  object_is (Literal n) kind is f plan h =
-      there_is (length input.heap.objects + n) literal f plan (literal_there world state sound.cells known input correct stands.instance_of.shape c.heap stands.heap n is) (h literal refl)
-  object_is (New n) kind is f plan h =
-      let made = there state.made n is in
-      there_is (length input.heap.objects + length world.literals + n) (made_at r made.0) f plan
-      (made_there world state sound.cells known input correct stands.instance_of.shape c.heap stands.heap n ∙ ap (option_map (made_at r)) made.1)
-      (h (made_at r made.0) (ap (option_map (λ (o : SymObject). o.kind)) made.1))
-  object_is (Loc n) kind is f plan h = absurd (no_loc world state sound.cells known input correct stands.instance_of.shape c.heap stands.heap n is)
+  object_is Null kind is f plan h = plain_is world bounds at next (throws s c null_pointer) (Throws null_pointer) refl
+  object_is (Obj n) kind is f plan h = named_is (Obj n) _ is refl f plan h
+  object_is (Literal n) kind is f plan h = named_is (Literal n) _ is refl f plan h
+  object_is (New n) kind is f plan h = named_is (New n) _ is refl f plan h
+  object_is (Loc n) kind is f plan h = named_is (Loc n) _ is refl f plan h
 
   -- ---- the machine's call
 
@@ -201,35 +123,23 @@ module _ (world : World) (bounds : Bounds) (base : State) (frame : SymFrame) (ca
   -- ---- a call with its operands
 
   module _ (args rest : List SymValue) (each : Each (IsSymValue world state) args) (left : Each (IsSymValue world state) rest) where
-    rest_later : (nodes : List Node) → Extends state.nodes nodes → V rest ≡ values_of_sym (later nodes) rest
-    rest_later nodes more = sym (values_later world state r (later nodes) (is_later nodes more) rest left)
-
     same_there : same_reference (machine_receiver (V args)) (machine_argument (V args)) ≡ same (receiver_of args) (argument_of args)
     same_there =
         ap (λ of. same_reference of (machine_argument (V args))) (reference_at_is r args 0) ∙ ap (same_reference (referred r (receiver_of args))) (reference_at_is r args 1)
-        ∙ same_is world state sound.cells known input correct stands.instance_of.shape c.heap stands.heap (receiver_of args) (argument_of args) (is_reference_at args 0) (is_reference_at args 1)
+        ∙ same_is world state at.sound.cells at.known at.input at.correct at.stands.instance_of.shape c.heap at.stands.heap (receiver_of args) (argument_of args) (is_reference_at args 0) (is_reference_at args 1)
         (there_at world state args 0 each) (there_at world state args 1 each)
 
-    equals_is : IsPlan (goes s c next (IntValue (truth (same_reference (machine_receiver (V args)) (machine_argument (V args)))) ∷ V rest)) (equals state args rest)
+    equals_is : Is (goes s c next (IntValue (truth (same_reference (machine_receiver (V args)) (machine_argument (V args)))) ∷ V rest)) (equals state args rest)
     equals_is =
-        let alike : Bool = same (receiver_of args) (argument_of args) in
-        let made : List Node × TermId = interned state.nodes (Const (truth alike)) in
-        let more : Extends state.nodes made.0 = interned_extends state.nodes (Const (truth alike)) in
-        let term : value_of_sym (later made.0) (Int made.1) ≡ IntValue (truth alike) =
-        reading_int world (with_nodes state made.0) input places made.1 ∙ ap IntValue (constant_made state.nodes (truth alike) (variable_values state.picture input places.objects)) in (
-          made.0,
-          more,
-          refl,
-          ap (λ (b : Bool). goes s c next (IntValue (truth b) ∷ V rest)) same_there
-              ∙ goes_is made.0 more (Int made.1 ∷ rest) (IntValue (truth alike) ∷ V rest)
-              (ap (λ (v : Value). v ∷ V rest) (sym term) ∙ ap (λ (l : List Value). value_of_sym (later made.0) (Int made.1) ∷ l) (rest_later made.0 more)),
-        )
+        so world bounds at next (goes s c next (IntValue (truth (same_reference (machine_receiver (V args)) (machine_argument (V args)))) ∷ V rest))
+        (goes s c next (IntValue (truth (same (receiver_of args) (argument_of args))) ∷ V rest)) (equals state args rest) (ap (λ (b : Bool). goes s c next (IntValue (truth b) ∷ V rest)) same_there)
+        (number_is world bounds at next (truth (same (receiver_of args) (argument_of args))) rest left)
 
     at_once_is : (b : Bool)
-        → IsPlan (goes s c next (pushed (if b then Some (IntValue (truth (same_reference (machine_receiver (V args)) (machine_argument (V args))))) else None) (V rest)))
+        → Is (goes s c next (pushed (if b then Some (IntValue (truth (same_reference (machine_receiver (V args)) (machine_argument (V args))))) else None) (V rest)))
         (if b then equals state args rest else plain state (with_stack state rest))
     at_once_is true = equals_is
-    at_once_is false = plain_is (goes s c next (V rest)) (with_stack state rest) (goes_is state.nodes (Extends-refl state.nodes) rest (V rest) refl)
+    at_once_is false = stack_is world bounds at next rest (V rest) refl
 
     abbrev answer : MethodInfo → Option Value
     answer method = if is_equals world method then Some (IntValue (truth (same_reference (machine_receiver (V args)) (machine_argument (V args))))) else None
@@ -243,27 +153,27 @@ module _ (world : World) (bounds : Bounds) (base : State) (frame : SymFrame) (ca
     abbrev called_method : ℕ → MethodInfo → Planned
     called_method number method = calls_method world state number method args rest
 
-    method_is : (number : ℕ) (method : MethodInfo) → IsPlan (invoked_method number method) (called_method number method)
+    method_is : (number : ℕ) (method : MethodInfo) → Is (invoked_method number method) (called_method number method)
     method_is number method =
-        if_is (is_some method.code) (enters s c (record { 0 = number }) (V args) (V rest)) (without_code method) (plain state (Enters (record { 0 = number }) args rest))
+        if_is world bounds at next (is_some method.code) (enters s c (record { 0 = number }) (V args) (V rest)) (without_code method) (plain state (Enters (record { 0 = number }) args rest))
         (if is_without_file world method.class.0 then answers_at_once world state method args rest else plain state Fails)
-        (plain_is (enters s c (record { 0 = number }) (V args) (V rest)) (Enters (record { 0 = number }) args rest) refl)
-        (if_is (is_without_file world method.class.0) (goes s c next (pushed (answer method) (V rest))) (ill_typed s c) (answers_at_once world state method args rest) (plain state Fails)
-        (at_once_is (is_equals world method)) (plain_is (ill_typed s c) Fails refl))
+        (plain_is world bounds at next (enters s c (record { 0 = number }) (V args) (V rest)) (Enters (record { 0 = number }) args rest) refl)
+        (if_is world bounds at next (is_without_file world method.class.0) (goes s c next (pushed (answer method) (V rest))) (ill_typed s c) (answers_at_once world state method args rest) (plain state Fails)
+        (at_once_is (is_equals world method)) (fails_is world bounds at next))
 
-    calls_is : (found : Option ℕ) → IsPlan (machine_invokes s next c found (V args) (V rest)) (calls world state found args rest)
+    calls_is : (found : Option ℕ) → Is (machine_invokes s next c found (V args) (V rest)) (calls world state found args rest)
     calls_is found =
-        with_same (λ number. with s c (info_of world (record { 0 = number })) (invoked_method number)) (λ number. planned state (info_of world (record { 0 = number })) (called_method number)) found
-        (λ number. with_same (invoked_method number) (called_method number) (info_of world (record { 0 = number })) (method_is number))
+        with_same world bounds at next (λ number. with s c (info_of world (record { 0 = number })) (invoked_method number)) (λ number. planned state (info_of world (record { 0 = number })) (called_method number)) found
+        (λ number. with_same world bounds at next (invoked_method number) (called_method number) (info_of world (record { 0 = number })) (method_is number))
 
-    receiver_is : (f : Object → Outcome) (plan : Planned) → ((object : Object) → receiver_type state (receiver_of args) ≡ Some object.kind → IsPlan (f object) plan)
-        → IsPlan (on_machine_object s c (machine_receiver (V args)) (λ o object. f object)) (on_object state (receiver_of args) plan)
+    receiver_is : (f : Object → Outcome) (plan : Planned) → ((object : Object) → object_type state (receiver_of args) ≡ Some object.kind → Is (f object) plan)
+        → Is (on_machine_object s c (machine_receiver (V args)) (λ o object. f object)) (on_object state (receiver_of args) plan)
     receiver_is f plan h =
-        so (on_machine_object s c (machine_receiver (V args)) (λ o object. f object)) (on_machine_object s c (referred r (receiver_of args)) (λ o object. f object)) (on_object state (receiver_of args) plan)
+        so world bounds at next (on_machine_object s c (machine_receiver (V args)) (λ o object. f object)) (on_machine_object s c (referred r (receiver_of args)) (λ o object. f object)) (on_object state (receiver_of args) plan)
         (ap (λ of. on_machine_object s c of (λ o object. f object)) (reference_at_is r args 0))
         (object_is (receiver_of args) (is_reference_at args 0) (there_at world state args 0 each) f plan h)
 
-    on_is : (call : CallKind) (entry : ℕ) (callee : Callee) → IsPlan (on_by (here world state) call entry callee (V args) (V rest)) (calls_on call world state entry callee args rest)
+    on_is : (call : CallKind) (entry : ℕ) (callee : Callee) → Is (on_by (here world state) call entry callee (V args) (V rest)) (calls_on call world state entry callee args rest)
     on_is Static entry callee = calls_is (resolved_method world (here world state) entry)
     on_is Special entry callee =
         receiver_is (λ object. machine_invokes s next c (selected_special world (here world state) entry) (V args) (V rest)) (calls world state (selected_special world (here world state) entry) args rest)
@@ -271,13 +181,13 @@ module _ (world : World) (bounds : Bounds) (base : State) (frame : SymFrame) (ca
     on_is BySelection entry callee =
         receiver_is (λ object. machine_invokes s next c (selected_at world (here world state) entry callee object.kind) (V args) (V rest))
         (calls world state (selected_for world state entry callee (receiver_of args)) args rest)
-        (λ object kind. subst (λ (it : Option ExactType). IsPlan (machine_invokes s next c (selected_at world (here world state) entry callee object.kind) (V args) (V rest))
+        (λ object kind. subst (λ (it : Option ExactType). Is (machine_invokes s next c (selected_at world (here world state) entry callee object.kind) (V args) (V rest))
         (calls world state (option_and_then (selected_at world (here world state) entry callee) it) args rest)) (sym kind) (calls_is (selected_at world (here world state) entry callee object.kind)))
 
   -- ---- the call
 
   here_is : machine_here s c ≡ here world state
-  here_is = ap (class_number world) framed.method
+  here_is = ap (class_number world) at.stands.stage.0.method
 
   abbrev on_taken : ℕ → CallKind → ℕ → Callee → Taken (List Value) → Outcome
   on_taken class call entry callee t = on_by class call entry callee t.it t.rest
@@ -286,42 +196,35 @@ module _ (world : World) (bounds : Bounds) (base : State) (frame : SymFrame) (ca
   called_in class call entry = with s c (callee_at world class entry) (λ callee. with s c (machine_operands call callee.kind c.frame.stack) (on_taken class call entry callee))
 
   abbrev called_on : CallKind → ℕ → Callee → List SymValue → Planned
-  called_on call entry callee args = calls_on call world state entry callee args (drop (length (operand_types call callee.kind)) frame.stack)
+  called_on call entry callee args = calls_on call world state entry callee args (drop (length (operand_types call callee.kind)) at.frame.stack)
 
   operands_is : (call : CallKind) (entry : ℕ) (callee : Callee)
-      → IsPlan (with s c (machine_operands call callee.kind c.frame.stack) (on_taken (here world state) call entry callee)) (planned state (operands_of call callee.kind frame.stack) (called_on call entry callee))
+      → Is (with s c (machine_operands call callee.kind c.frame.stack) (on_taken (here world state) call entry callee)) (planned state (operands_of call callee.kind at.frame.stack) (called_on call entry callee))
   operands_is call entry callee =
       let count : ℕ = length (operand_types call callee.kind) in
-      so (with s c (machine_operands call callee.kind c.frame.stack) (on_taken (here world state) call entry callee))
-      (with s c (option_map (given r count frame.stack) (operands_of call callee.kind frame.stack)) (on_taken (here world state) call entry callee))
-      (planned state (operands_of call callee.kind frame.stack) (called_on call entry callee))
+      so world bounds at next (with s c (machine_operands call callee.kind c.frame.stack) (on_taken (here world state) call entry callee))
+      (with s c (option_map (given r count at.frame.stack) (operands_of call callee.kind at.frame.stack)) (on_taken (here world state) call entry callee))
+      (planned state (operands_of call callee.kind at.frame.stack) (called_on call entry callee))
       (ap (λ (o : Option (Taken (List Value))). with s c o (on_taken (here world state) call entry callee))
-      (ap (machine_operands call callee.kind) framed.stack ∙ operands_are r call callee.kind frame.stack))
-      (with_is (given r count frame.stack) (on_taken (here world state) call entry callee) (called_on call entry callee) (operands_of call callee.kind frame.stack) (λ args e.
-      on_is args (drop count frame.stack)
-      (subst (Each (IsSymValue world state)) (only_is (are_of_kinds (operand_types call callee.kind) (topmost count frame.stack)) (topmost count frame.stack) args e)
-      (each_topmost (IsSymValue world state) count frame.stack sound.stage.0.stack))
-      (each_drop (IsSymValue world state) count frame.stack sound.stage.0.stack) call entry callee))
+      (ap (machine_operands call callee.kind) at.stands.stage.0.stack ∙ operands_are r call callee.kind at.frame.stack))
+      (with_is world bounds at next (given r count at.frame.stack) (on_taken (here world state) call entry callee) (called_on call entry callee) (operands_of call callee.kind at.frame.stack) (λ args e.
+      on_is args (drop count at.frame.stack)
+      (subst (Each (IsSymValue world state)) (only_is (are_of_kinds (operand_types call callee.kind) (topmost count at.frame.stack)) (topmost count at.frame.stack) args e)
+      (each_topmost (IsSymValue world state) count at.frame.stack at.sound.stage.0.stack))
+      (each_drop (IsSymValue world state) count at.frame.stack at.sound.stage.0.stack) call entry callee))
 
-  called_is : (call : CallKind) (entry : ℕ) → IsPlan (called_in (machine_here s c) call entry) (invokes call world state entry)
+  called_is : (call : CallKind) (entry : ℕ) → Is (called_in (machine_here s c) call entry) (invokes call world state entry)
   called_is call entry =
-      so (called_in (machine_here s c) call entry) (called_in (here world state) call entry) (invokes call world state entry) (ap (λ (class : ℕ). called_in class call entry) here_is)
-      (with_same (λ callee. with s c (machine_operands call callee.kind c.frame.stack) (on_taken (here world state) call entry callee))
-      (λ callee. planned state (operands_of call callee.kind frame.stack) (called_on call entry callee)) (callee_at world (here world state) entry) (operands_is call entry))
+      so world bounds at next (called_in (machine_here s c) call entry) (called_in (here world state) call entry) (invokes call world state entry) (ap (λ (class : ℕ). called_in class call entry) here_is)
+      (with_same world bounds at next (λ callee. with s c (machine_operands call callee.kind c.frame.stack) (on_taken (here world state) call entry callee))
+      (λ callee. planned state (operands_of call callee.kind at.frame.stack) (called_on call entry callee)) (callee_at world (here world state) entry) (operands_is call entry))
 
-  invoked_is : (call : CallKind) (entry : ℕ) → IsPlan (invoke call entry s next c) (invokes call world state entry)
+  invoked_is : (call : CallKind) (entry : ℕ) → Is (invoke call entry s next c) (invokes call world state entry)
   unfolding invoke
   invoked_is BySelection entry = called_is BySelection entry
   invoked_is Special entry = called_is Special entry
   invoked_is Static entry = called_is Static entry
 
-  abbrev Follows : Take → Type 0
-  Follows take = (i : IsInstanceOf take.state input) → IsOutcome world bounds c take.state input i take.outcome
-
   -- Where the state stands for c, a call leads it where it leads the machine.
-  pub invokes_follow : (call : CallKind) (entry : ℕ) → stores s c ≡ [] → step s c ≡ invoke call entry s next c → Follows (followed world bounds next (invokes call world state entry))
-  invokes_follow call entry stored e =
-      let plan : Planned = invokes call world state entry in
-      let is : IsPlan (invoke call entry s next c) plan = invoked_is call entry in
-      subst (λ (st : State). Follows (went world bounds next st plan.way)) (sym is.2)
-      (went_is world bounds state sound input c stands frame callers unhandled next is.0 is.1 state.when (framed_later is.0 is.1) (waiting_later is.0 is.1) stored plan.way (e ∙ is.3))
+  pub invokes_follow : (call : CallKind) (entry : ℕ) → stores s c ≡ [] → step s c ≡ invoke call entry s next c → Follows world bounds at (followed world bounds next (invokes call world state entry))
+  invokes_follow call entry stored e = plan_follows world bounds at next (invoke call entry s next c) (invokes call world state entry) (invoked_is call entry) stored e

@@ -1,5 +1,3 @@
-pub mod ReferenceLaws
-pub mod ObjectLaws
 pub mod PlanLaws
 pub mod OperandLaws
 pub mod CallLaws

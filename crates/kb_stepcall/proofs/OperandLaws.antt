@@ -1,5 +1,5 @@
 -- The operands of a call in a state are those of the machine's call, with each symbolic value in the place of its value.
-use Rattle.std.proofs.Common.{◌≡◌, ℕ, Bool, true, false, ◌&&◌, List, [], ◌∷◌, ◌++◌, length, map, drop, take, reverse, slice_get, Option, Some, None, refl, sym, ap, subst, ◌∙◌}
+use Rattle.std.proofs.Common.{◌≡◌, ℕ, Bool, true, false, ◌&&◌, List, [], ◌∷◌, ◌++◌, length, map, drop, take, reverse, slice_get, Option, Some, None, refl, sym, ap, ◌∙◌}
 use Rattle.std.specs.Option.{option_map, option_map_or}
 use Rattle.std.proofs.lemmas.List.{drop-map, map-append, reverse-append, take-map}
 use Rattle.std.proofs.lemmas.Option.{slice_get-map}
@@ -18,7 +18,7 @@ use Rattle.kb_frames.specs.StandsFor.{value_of_sym, values_of_sym}
 use Rattle.kb_ways.specs.Kept.{is_of_kind}
 use Rattle.kb_ways.specs.Operands.{reference}
 use Rattle.kb_stepcall.specs.Operands.{are_of_kinds, operand_types, operands_of, reference_at, topmost}
-use Rattle.kb_stepcall.proofs.ReferenceLaws.{IsReference, reference_kind, reference_value, referred}
+use Rattle.kb_ways.proofs.ReferenceLaws.{IsReference, reference_kind, reference_value, referred}
 
 -- ---- lists
 

@@ -1,9 +1,8 @@
 -- What each way of a call has, each call has; and so of `new`.
-use Rattle.std.proofs.Common.{◌≡◌, ℕ, ℤ, List, ◌∷◌, length, drop, is_some, Bool, true, false, suc, Option, if◌then◌else◌}
+use Rattle.std.proofs.Common.{ℕ, ℤ, List, ◌∷◌, length, drop, is_some, Bool, true, false, suc, Option, if◌then◌else◌}
 use Rattle.kb_arith.specs.Word.{truth}
 use Rattle.kb_class.specs.declared.ids.MethodId.{MethodId}
 use Rattle.kb_class.specs.declared.members.MethodInfo.{MethodInfo}
-use Rattle.kb_names.specs.declared.types.JType.{JType}
 use Rattle.kb_classes.specs.World.{World, type_entry_of}
 use Rattle.kb_world.specs.Calls.{is_without_file, resolved_method, selected_special}
 use Rattle.kb_semantics.specs.Config.{has_room, info_of}
@@ -19,13 +18,13 @@ use Rattle.kb_frames.specs.Lent.{stack_of}
 use Rattle.kb_frames.specs.Making.{with_made}
 use Rattle.kb_frames.specs.Next.{method_now}
 use Rattle.kb_ways.specs.Identity.{same}
-use Rattle.kb_ways.specs.Plans.{Planned, plain, planned}
+use Rattle.kb_ways.specs.Plans.{Planned, here, plain, planned, pushes_term}
 use Rattle.kb_ways.specs.Ways.{Enters, Fails, Throws, with_stack}
 use Rattle.kb_ways.proofs.GrowLaws.{if_has, option_has}
-use Rattle.kb_stepcall.specs.Calls.{calls, calls_method, calls_on, here, invokes, on_object, selected_for}
+use Rattle.kb_stepcall.specs.Calls.{calls, calls_method, calls_on, invokes, on_object, selected_for}
 use Rattle.kb_stepcall.specs.Making.{makes, makes_object}
 use Rattle.kb_stepcall.specs.Operands.{are_of_kinds, argument_of, operand_types, operands_of, receiver_of, topmost}
-use Rattle.kb_stepcall.specs.Platform.{answers_at_once, answers_term, equals}
+use Rattle.kb_stepcall.specs.Platform.{answers_at_once, equals}
 
 module _ (P : Planned → Type 0) (world : World) (state : State) where
   abbrev stack : List SymValue
@@ -37,7 +36,7 @@ module _ (P : Planned → Type 0) (world : World) (state : State) where
     pub throws : P (plain state (Throws null_pointer))
     pub enters : (method : MethodId) (count : ℕ) → P (plain state (Enters method (topmost count stack) (drop count stack)))
     pub nothing : (count : ℕ) → P (plain state (with_stack state (drop count stack)))
-    pub term : (z : ℤ) (count : ℕ) → P (answers_term state (drop count stack) (interned state.nodes (Const z)))
+    pub term : (z : ℤ) (count : ℕ) → P (pushes_term state (drop count stack) (interned state.nodes (Const z)))
 
   module _ (h : HasWays) where
     planned_has : {A : Type 0} (it : Option A) (f : A → Planned) → ((x : A) → P (f x)) → P (planned state it f)

@@ -1,29 +1,22 @@
 -- What the four calls do to a state, each the counterpart of the machine's effect of the same instruction (JVMS 8 section 6.5,
 -- invokevirtual, invokespecial, invokestatic and invokeinterface), with symbolic values in the place of values. The order is the
 -- machine's: the operands' kinds, a receiver that is null, the method that is found, the bound on frames, the new frame.
-use Rattle.std.specs.Prelude.{ℕ, List, length, drop, is_some, Option, Some, option_and_then, if◌then◌else◌}
-use Rattle.kb_names.specs.declared.types.ExactType.{ExactType}
+use Rattle.std.specs.Prelude.{ℕ, List, length, drop, is_some, Option, option_and_then, if◌then◌else◌}
 use Rattle.kb_class.specs.declared.members.MethodInfo.{MethodInfo}
 use Rattle.kb_classes.specs.World.{World}
-use Rattle.kb_heap.specs.Heap.{literal}
 use Rattle.kb_world.specs.Calls.{is_without_file, resolved_method, selected_special}
-use Rattle.kb_semantics.specs.Config.{class_number, info_of}
+use Rattle.kb_semantics.specs.Config.{info_of}
 use Rattle.kb_semantics.specs.Instructions.{CallKind, BySelection, Special, Static, Callee, callee_at, selected_at}
 use Rattle.kb_semantics.specs.Ways.{null_pointer}
 use Rattle.kb_frames.specs.declared.value.SymValue.{SymValue}
-use Rattle.kb_frames.specs.declared.value.SymValue.TheVariants.{Null, Literal}
+use Rattle.kb_frames.specs.declared.value.SymValue.TheVariants.{Null}
 use Rattle.kb_frames.specs.State.{State}
-use Rattle.kb_frames.specs.Heaps.{exact_type_of}
 use Rattle.kb_frames.specs.Lent.{stack_of}
-use Rattle.kb_frames.specs.Next.{method_now}
-use Rattle.kb_ways.specs.Plans.{Planned, plain, planned}
+use Rattle.kb_ways.specs.Plans.{Planned, here, plain, planned}
+use Rattle.kb_ways.specs.Types.{object_type}
 use Rattle.kb_ways.specs.Ways.{Enters, Fails, Throws}
 use Rattle.kb_stepcall.specs.Operands.{operand_types, operands_of, receiver_of}
 use Rattle.kb_stepcall.specs.Platform.{answers_at_once}
-
--- the number of the class of the current method, whose entries its code names
-abbrev pub here : World → State → ℕ
-here world state = class_number world (method_now state.method state.stage)
 
 -- ---- the method that was found
 
@@ -46,14 +39,9 @@ abbrev pub on_object : State → SymValue → Planned → Planned
 on_object state Null plan = plain state (Throws null_pointer)
 on_object state receiver plan = plan
 
--- the exact type of a receiver: a literal is a java/lang/String
-abbrev pub receiver_type : State → SymValue → Option ExactType
-receiver_type state (Literal number) = Some literal.kind
-receiver_type state receiver = exact_type_of state receiver
-
--- what is selected by it
+-- what is selected by its exact type
 abbrev pub selected_for : World → State → ℕ → Callee → SymValue → Option ℕ
-selected_for world state entry callee receiver = option_and_then (selected_at world (here world state) entry callee) (receiver_type state receiver)
+selected_for world state entry callee receiver = option_and_then (selected_at world (here world state) entry callee) (object_type state receiver)
 
 abbrev pub calls_on : CallKind → World → State → ℕ → Callee → List SymValue → List SymValue → Planned
 calls_on Static world state entry callee args rest = calls world state (resolved_method world (here world state) entry) args rest

@@ -9,9 +9,8 @@ use Rattle.kb_frames.specs.State.{State}
 use Rattle.kb_frames.specs.Lent.{stack_of}
 use Rattle.kb_frames.specs.Making.{with_made}
 use Rattle.kb_frames.specs.Next.{method_now}
-use Rattle.kb_ways.specs.Plans.{Planned, plain, planned}
+use Rattle.kb_ways.specs.Plans.{Planned, here, plain, planned}
 use Rattle.kb_ways.specs.Ways.{Fails, with_stack}
-use Rattle.kb_stepcall.specs.Calls.{here}
 
 -- where the stack has no room for the reference, no object is made
 abbrev pub makes : World → State → List ℕ → Planned

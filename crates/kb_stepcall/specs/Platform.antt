@@ -1,30 +1,22 @@
 -- What a method of a platform class answers at once (java.lang.Object, equals: two are equal where they are one object). Each
 -- other one that may be called is a constructor, which does nothing (own).
-use Rattle.std.specs.Prelude.{List, ◌∷◌, length, drop, if◌then◌else◌}
+use Rattle.std.specs.Prelude.{List, if◌then◌else◌}
 use Rattle.kb_arith.specs.Word.{truth}
 use Rattle.kb_class.specs.declared.members.MethodInfo.{MethodInfo}
 use Rattle.kb_classes.specs.World.{World}
 use Rattle.kb_semantics.specs.Instructions.{is_equals}
-use Rattle.kb_terms.specs.declared.node.TermId.{TermId}
-use Rattle.kb_terms.specs.declared.node.Node.{Node}
 use Rattle.kb_terms.specs.declared.node.Node.TheVariants.{Const}
 use Rattle.kb_terms.specs.Terms.{interned}
 use Rattle.kb_frames.specs.declared.value.SymValue.{SymValue}
-use Rattle.kb_frames.specs.declared.value.SymValue.TheVariants.{Int}
 use Rattle.kb_frames.specs.State.{State}
-use Rattle.kb_frames.specs.Lent.{stack_of, with_nodes}
 use Rattle.kb_ways.specs.Identity.{same}
-use Rattle.kb_ways.specs.Plans.{Planned, plain}
+use Rattle.kb_ways.specs.Plans.{Planned, plain, pushes_term}
 use Rattle.kb_ways.specs.Ways.{with_stack}
 use Rattle.kb_stepcall.specs.Operands.{argument_of, receiver_of}
 
--- `rest` is left on the stack, and a result lies on it: the term of 1 or 0
-abbrev pub answers_term : State → List SymValue → List Node × TermId → Planned
-answers_term state rest term = record { state = with_nodes state term.0; way = with_stack state (Int term.1 ∷ rest) }
-
--- Object.equals of these operands
+-- Object.equals of these operands: `rest` is left on the stack, and the term of 1 or 0 lies on it
 abbrev pub equals : State → List SymValue → List SymValue → Planned
-equals state args rest = answers_term state rest (interned state.nodes (Const (truth (same (receiver_of args) (argument_of args)))))
+equals state args rest = pushes_term state rest (interned state.nodes (Const (truth (same (receiver_of args) (argument_of args)))))
 
 -- A method of a platform class is called with these operands.
 abbrev pub answers_at_once : World → State → MethodInfo → List SymValue → List SymValue → Planned

@@ -2,13 +2,14 @@
 ghost use Rattle.std.specs.Prelude.{◌≡◌, drop, option_and_then, option_map, IfOk};
 ghost use Rattle.kb_class.specs.declared.ids.MethodId.{MethodId as PlainId};
 ghost use Rattle.kb_frames.specs.Lent.{stack_of};
-ghost use Rattle.kb_heap.specs.Heap.{literal};
 ghost use Rattle.kb_lookups.specs.Callees.{plain_callee};
 ghost use Rattle.kb_resolution.specs.Lookup.{selected_special};
 ghost use Rattle.kb_semantics.specs.Instructions.{BySelection, selected_at};
 ghost use Rattle.kb_ways.specs.Needs.{IsFor};
+ghost use Rattle.kb_ways.specs.Plans.{here};
 ghost use Rattle.kb_ways.specs.Turns.{led_by, told};
-ghost use Rattle.kb_stepcall.specs.Calls.{calls, calls_on, here, invokes, on_object, receiver_type};
+ghost use Rattle.kb_ways.specs.Types.{object_type};
+ghost use Rattle.kb_stepcall.specs.Calls.{calls, calls_on, invokes, on_object};
 ghost use Rattle.kb_stepcall.specs.Operands.{kind_of, receiver_of, topmost};
 
 use crate::NoMemory;
@@ -17,8 +18,7 @@ use crate::platform::answer_at_once;
 use kb_class::MethodId;
 use kb_frames::{Outcome, SymState, SymValue};
 use kb_lookups::{Callee, callee_at, declaring_class, selected_at};
-use kb_names::ExactType;
-use kb_ways::{Turn, enters, ill_typed, throws};
+use kb_ways::{Turn, enters, ill_typed, literal_type, throws};
 
 /// How a call finds its method: by the receiver's exact type (invokevirtual, invokeinterface), upwards from a class that does not
 /// depend on the receiver (invokespecial), or as the method that is named (invokestatic).
@@ -30,8 +30,6 @@ pub enum Call {
 }
 
 const NULL_POINTER: &[u8] = b"java/lang/NullPointerException";
-
-const STRING: &[u8] = b"java/lang/String";
 
 /// invokevirtual and invokeinterface, invokespecial, invokestatic. It takes time in proportion to the operands and the locals of
 /// the new frame, and to the classes above that of the receiver.
@@ -119,7 +117,7 @@ fn select(
     receiver: SymValue,
 ) -> Result<Option<MethodId>, NoMemory>
     requires { IsFor turn.now state.now }
-    ensures { IfOk result (λ found. option_map (λ (id : PlainId). id.0) found ≡ option_and_then (selected_at turn.now.world.now (here turn.now.world.now state.now) entry (plain_callee callee.now)) (receiver_type state.now receiver)) }
+    ensures { IfOk result (λ found. option_map (λ (id : PlainId). id.0) found ≡ option_and_then (selected_at turn.now.world.now (here turn.now.world.now state.now) entry (plain_callee callee.now)) (object_type state.now receiver)) }
 {
     let class = declaring_class(turn.world, turn.method);
     if let SymValue::Literal(_) = receiver {
@@ -130,14 +128,6 @@ fn select(
         Some(kind) => Ok(selected_at(turn.world, class, entry, callee, kind)),
         None => Ok(None),
     }
-}
-
-// The exact type of a literal, which shares the name of the class.
-fn literal_type(turn: &Turn<'_>) -> Result<ExactType, NoMemory>
-    ensures { IfOk result (λ kind. kind ≡ literal.kind) }
-{
-    let name = turn.world.shared_name(turn.alloc, STRING)?;
-    Ok(ExactType::Class(name))
 }
 
 // The method of that number is called with so many operands.

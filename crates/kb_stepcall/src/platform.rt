@@ -1,7 +1,6 @@
 //! What a method of a platform class answers at once (java.lang.Object, equals).
 ghost use Rattle.std.specs.Prelude.{◌≡◌, drop, IfOk};
 ghost use Rattle.kb_frames.specs.Lent.{stack_of};
-ghost use Rattle.kb_arith.specs.Word.{truth};
 ghost use Rattle.kb_ways.specs.Needs.{IsFor};
 ghost use Rattle.kb_ways.specs.Turns.{led_by, told};
 ghost use Rattle.kb_stepcall.specs.Operands.{topmost};
@@ -10,9 +9,9 @@ ghost use Rattle.kb_stepcall.specs.Platform.{answers_at_once, equals};
 use crate::NoMemory;
 use crate::operands::operand;
 use kb_class::MethodInfo;
-use kb_frames::{Outcome, SymState, SymValue};
+use kb_frames::{Outcome, SymState};
 use kb_lookups::is_equals;
-use kb_ways::{Turn, constant, replaces, same};
+use kb_ways::{Turn, push_truth, replaces, same};
 
 /// Object.equals answers whether its operands are one object; each other one is a constructor, which does nothing. It takes no
 /// frame.
@@ -37,12 +36,5 @@ fn equals(turn: &Turn<'_>, state: &mut SymState, count: usize) -> Result<Outcome
     ensures { IfOk result (λ outcome. told state.new outcome ≡ led_by turn.now (equals state.old (topmost count (stack_of state.old.stage)) (drop count (stack_of state.old.stage)))) }
 {
     let so = same(operand(state, count, 0), operand(state, count, 1));
-    let term = constant(state, truth(so))?;
-    replaces(turn, state, count, &[SymValue::Int(term)])
-}
-
-fn truth(so: bool) -> i32
-    ensures { result ≡ truth so }
-{
-    if so { 1 } else { 0 }
+    push_truth(turn, state, count, so)
 }

@@ -49,39 +49,13 @@ use Rattle.kb_ways.proofs.OperandLaws.{int_is_term}
 use Rattle.kb_frames.proofs.ItemLaws.{two_parts}
 use Rattle.kb_ways.proofs.GrowLaws.{Grows, all_asked_grows, HasMore}
 use Rattle.kb_stepint.proofs.KeepLaws.{effect_makes}
+use Rattle.kb_ways.proofs.OfferLaws.{one_left}
 use Rattle.kb_ways.proofs.OneAsked.{AllHold, AllSides, IsReady, conditions_there}
 use Rattle.kb_ways.proofs.OneDecided.{all_hold, all_met, all_open, all_ready, not_refuted}
 use Rattle.kb_ways.proofs.OneInstances.{argument_is, instance_of_met, int_argument, met_of_instance, read_instance}
 use Rattle.kb_stepint.proofs.OneListed.{conditions_alike, conditions_sides, listed_one, wanted_of}
 use Rattle.kb_ways.proofs.ValueLaws.{pool_ordered}
 use Rattle.kb_ways.proofs.BegunLaws.{AreStackTerms, begun_terms, place_same, stack_same}
-
--- ---- one of those that are left
-
-filter_kept : {A : Type 0} (keep : A → Bool) (x : A) (xs : List A) → keep x ≡ true → filter keep (x ∷ xs) ≡ x ∷ filter keep xs
-filter_kept keep x xs e = rw e refl
-
-filter_dropped : {A : Type 0} (keep : A → Bool) (x : A) (xs : List A) → keep x ≡ false → filter keep (x ∷ xs) ≡ filter keep xs
-filter_dropped keep x xs e = rw e refl
-
-module _ {A B C : Type 0} (P : A → B → Type 0) (Q : A → C → Type 0) (values : B) (input : C) (keep : A → Bool) (kept : (x : A) → P x values → keep x ≡ true)
-    (there : (x : A) → P x values → Q x input) (back : (x : A) → keep x ≡ true → Q x input → P x values) where
-  none_left : (xs : List A) → NoneHas P xs values → NoneHas Q (filter keep xs) input
-  none_left [] none = tt
-  none_left (x ∷ xs) none = go (none_left xs none.1) (keep x) refl where
-    go : NoneHas Q (filter keep xs) input → (b : Bool) → keep x ≡ b → NoneHas Q (filter keep (x ∷ xs)) input
-    go rest true e = subst (λ (left : List A). NoneHas Q left input) (sym (filter_kept keep x xs e)) ((λ q. none.0 (back x e q)), rest)
-    go rest false e = subst (λ (left : List A). NoneHas Q left input) (sym (filter_dropped keep x xs e)) rest
-
-  one_left : (xs : List A) → ExactlyOneHas P xs values → ExactlyOneHas Q (filter keep xs) input
-  one_left [] one = one
-  one_left (x ∷ xs) one = elim one [
-    | inl here ↦ subst (λ (left : List A). ExactlyOneHas Q left input) (sym (filter_kept keep x xs (kept x here.0))) (inl (there x here.0, none_left xs here.1))
-    | inr later ↦ go (one_left xs later.1) (keep x) refl later.0
-  ] where
-    go : ExactlyOneHas Q (filter keep xs) input → (b : Bool) → keep x ≡ b → (P x values → ⊥) → ExactlyOneHas Q (filter keep (x ∷ xs)) input
-    go rest true e never = subst (λ (left : List A). ExactlyOneHas Q left input) (sym (filter_kept keep x xs e)) (inr ((λ q. never (back x e q)), rest))
-    go rest false e never = subst (λ (left : List A). ExactlyOneHas Q left input) (sym (filter_dropped keep x xs e)) rest
 
 -- ---- the operands are terms
 

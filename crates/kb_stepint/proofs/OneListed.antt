@@ -31,7 +31,8 @@ use Rattle.kb_ways.specs.Advancing.{only}
 use Rattle.kb_ways.specs.Needs.{IsSide}
 use Rattle.kb_ways.specs.Operands.{an_int, two_ints}
 use Rattle.kb_ways.proofs.AskedLaws.{side_value}
-use Rattle.kb_ways.proofs.OneAsked.{Holds, AllHold, AllSides, IsTruth}
+use Rattle.kb_ways.proofs.TruthLaws.{eq_truth, equal_so, lt_truth, so_equal}
+use Rattle.kb_ways.proofs.OneAsked.{ConditionHolds, AllHold, AllSides, IsTruth}
 use Rattle.kb_ways.proofs.SideLaws.{branch_sides, key_sides}
 use Rattle.kb_ways.proofs.OneDecided.{AreAlike, truth_same}
 
@@ -93,7 +94,7 @@ module _ (nodes : List Node) (variables : List ℤ) where
   -- ---- branches
 
   -- the condition of a branch holds exactly where the machine's does, or does not
-  pub branch_so : (cond : Cond) (a b : Side) (so : Bool) → Holds nodes variables (branch_condition cond a b so) → holds cond (W a) (W b) ≡ so
+  pub branch_so : (cond : Cond) (a b : Side) (so : Bool) → ConditionHolds nodes variables (branch_condition cond a b so) → holds cond (W a) (W b) ≡ so
   unfolding word_eq word_lt
   branch_so conds.Eq a b so h = truth_same (int_eq (W a) (W b)) so h
   branch_so conds.Ne a b so h = ap not (truth_same (int_eq (W a) (W b)) (not so) h) ∙ not_not so
@@ -102,7 +103,7 @@ module _ (nodes : List Node) (variables : List ℤ) where
   branch_so conds.Gt a b so h = truth_same (int_lt (W b) (W a)) so h
   branch_so conds.Le a b so h = ap not (truth_same (int_lt (W b) (W a)) (not so) h) ∙ not_not so
 
-  so_branch : (cond : Cond) (a b : Side) (so : Bool) → holds cond (W a) (W b) ≡ so → Holds nodes variables (branch_condition cond a b so)
+  so_branch : (cond : Cond) (a b : Side) (so : Bool) → holds cond (W a) (W b) ≡ so → ConditionHolds nodes variables (branch_condition cond a b so)
   unfolding word_eq word_lt
   so_branch conds.Eq a b so e = ap truth e
   so_branch conds.Ne a b so e = ap truth (sym (not_not (int_eq (W a) (W b))) ∙ ap not e)
@@ -119,22 +120,14 @@ module _ (nodes : List Node) (variables : List ℤ) where
 
   -- ---- equalities
 
-  pub equal_so : (x : TermId) (z : ℤ) (so : Bool) → Holds nodes variables (equal_sides (Term x) (Number z) so) → int_eq (value_of nodes x variables) z ≡ so
-  unfolding word_eq
-  equal_so x z so h = truth_same (int_eq (value_of nodes x variables) z) so h
-
-  so_equal : (x : TermId) (z : ℤ) (so : Bool) → int_eq (value_of nodes x variables) z ≡ so → Holds nodes variables (equal_sides (Term x) (Number z) so)
-  unfolding word_eq
-  so_equal x z so e = ap truth e
-
   abbrev is_zero : TermId → Bool
   is_zero x = int_eq (value_of nodes x variables) (pos 0)
 
   divisor_one : (x : TermId) → ExactlyOneHas (λ (choice : Choice) (values : List ℤ). AllHold nodes values (divisor_conditions x choice)) (Zero ∷ NotZero ∷ []) variables
   divisor_one x =
       two_ways (λ (choice : Choice) (values : List ℤ). AllHold nodes values (divisor_conditions x choice)) variables Zero NotZero (not (is_zero x))
-      (λ e. (so_equal x (pos 0) true (not-false (is_zero x) e), tt)) (λ e h. true≢false (sym (not-false (is_zero x) e) ∙ equal_so x (pos 0) false h.0))
-      (λ e. (so_equal x (pos 0) false (not-true (is_zero x) e), tt)) (λ e h. true≢false (sym (equal_so x (pos 0) true h.0) ∙ not-true (is_zero x) e))
+      (λ e. (so_equal nodes variables x (pos 0) true (not-false (is_zero x) e), tt)) (λ e h. true≢false (sym (not-false (is_zero x) e) ∙ equal_so nodes variables x (pos 0) false h.0))
+      (λ e. (so_equal nodes variables x (pos 0) false (not-true (is_zero x) e), tt)) (λ e h. true≢false (sym (equal_so nodes variables x (pos 0) true h.0) ∙ not-true (is_zero x) e))
 
   division_one : (op : IntOp) (x : TermId) → ExactlyOneHas (λ (choice : Choice) (values : List ℤ). AllHold nodes values (division_conditions op x choice)) (divisors op) variables
   division_one ops.Div x = divisor_one x
@@ -155,11 +148,11 @@ module _ (nodes : List Node) (variables : List ℤ) where
 
     none_hold : (keys : List (ℤ × ℕ)) → IsNoKey z keys → AllHold nodes variables (map (λ (key : ℤ × ℕ). equal_sides (Term x) (Number key.0) false) keys)
     none_hold [] none = tt
-    none_hold (key ∷ keys) none = (so_equal x key.0 false none.0, none_hold keys none.1)
+    none_hold (key ∷ keys) none = (so_equal nodes variables x key.0 false none.0, none_hold keys none.1)
 
     hold_none : (keys : List (ℤ × ℕ)) → AllHold nodes variables (map (λ (key : ℤ × ℕ). equal_sides (Term x) (Number key.0) false) keys) → IsNoKey z keys
     hold_none [] hold = tt
-    hold_none (key ∷ keys) hold = (equal_so x key.0 false hold.0, hold_none keys hold.1)
+    hold_none (key ∷ keys) hold = (equal_so nodes variables x key.0 false hold.0, hold_none keys hold.1)
 
     pub default_none : Fits Default → IsNoKey z all
     default_none fits = hold_none all fits
@@ -168,10 +161,10 @@ module _ (nodes : List Node) (variables : List ℤ) where
     AtKey found = AllHold nodes variables (if_some found (λ (k : ℤ × ℕ). equal_sides (Term x) (Number k.0) true ∷ []))
 
     key_fits : (place : ℕ) (key : ℤ × ℕ) → slice_get all place ≡ Some key → int_eq z key.0 ≡ true → Fits (Key place)
-    key_fits place key at e = subst AtKey (sym at) (so_equal x key.0 true e, tt)
+    key_fits place key at e = subst AtKey (sym at) (so_equal nodes variables x key.0 true e, tt)
 
     pub fits_key : (place : ℕ) (key : ℤ × ℕ) → slice_get all place ≡ Some key → Fits (Key place) → int_eq z key.0 ≡ true
-    fits_key place key at fits = (let h : AtKey (Some key) = subst AtKey at fits in equal_so x key.0 true h.0)
+    fits_key place key at fits = (let h : AtKey (Some key) = subst AtKey at fits in equal_so nodes variables x key.0 true h.0)
 
     -- these are the keys from that place on
     abbrev AreAt : ℕ → List (ℤ × ℕ) → Type 0
@@ -232,14 +225,6 @@ module _ (nodes : List Node) (variables : List ℤ) where
   listed_one _ stack rising = inl (tt, tt)
 
 -- ---- what the conditions of an alternative have in common
-
-eq_truth : IsTruth Eq
-unfolding word_eq
-eq_truth a b = (int_eq a b, refl)
-
-lt_truth : IsTruth Lt
-unfolding word_lt
-lt_truth a b = (int_lt a b, refl)
 
 branch_alike : (cond : Cond) (a b : Side) (so : Bool) → AreAlike (is_plain cond so) (branch_condition cond a b so ∷ [])
 branch_alike conds.Eq a b so = (eq_truth, refl, tt)

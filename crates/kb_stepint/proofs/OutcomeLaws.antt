@@ -45,7 +45,6 @@ use Rattle.kb_ways.specs.Plans.{Planned, carried_out, takes_next, takes_up, foll
 use Rattle.kb_stepint.specs.Effects.{plan_of, effect_of}
 use Rattle.kb_stepint.specs.Laws.{IsAtInts}
 use Rattle.kb_ways.specs.Needs.{IsTermOf}
-use Rattle.kb_ways.specs.Reached.{HaveNoHandlers}
 use Rattle.kb_ways.specs.Simulation.{FollowsStep, IsOutcome}
 use Rattle.kb_stepint.specs.Takes.{reads_argument, taken}
 use Rattle.kb_ways.specs.Ways.{Take, ill_typed, went}
@@ -58,7 +57,7 @@ use Rattle.kb_stepint.proofs.OneLaws.{instance_held, one_term, two_terms}
 use Rattle.kb_stepint.proofs.OneListed.{conditions_sides}
 use Rattle.kb_stepint.proofs.OutcomePlans.{HasFrameTerms, Reads, plan_is}
 use Rattle.kb_stepint.proofs.OutcomeReads.{reads_is}
-use Rattle.kb_ways.proofs.AloneLaws.{begun_unhandled}
+use Rattle.kb_ways.proofs.OfferLaws.{has_kept}
 use Rattle.kb_ways.proofs.OutcomeStands.{Running, running}
 use Rattle.kb_ways.proofs.OutcomeValues.{frame_later, frames_later, reading_int, reading_later}
 use Rattle.kb_ways.proofs.OutcomeWays.{ill_typed_is, went_is}
@@ -66,21 +65,6 @@ use Rattle.kb_ways.proofs.PastLaws.{cut_by_steps}
 use Rattle.kb_ways.proofs.SoundLaws.{sound_reached}
 use Rattle.kb_ways.proofs.ValueLaws.{IsOrdered, pool_ordered}
 use Rattle.kb_ways.proofs.StepLaws.{step_taken, stores_taken}
-
--- what is left of a list stands in it, and was to be kept
-has_kept : {A : Type 0} (keep : A → Bool) (xs : List A) (x : A) → Has (filter keep xs) x → Has xs x × (keep x ≡ true)
-has_kept keep [] x (n, e) = absurd cc
-has_kept {A} keep (y ∷ xs) x has = go (λ (h : Has (filter keep xs) x). has_kept keep xs x h) (keep y) refl has where
-  later : Has xs x × (keep x ≡ true) → Has (y ∷ xs) x × (keep x ≡ true)
-  later both = ((suc both.0.0, both.0.1), both.1)
-
-  at_place : keep y ≡ true → (n : ℕ) → slice_get (y ∷ filter keep xs) n ≡ Some x → (Has (filter keep xs) x → Has xs x × (keep x ≡ true)) → Has (y ∷ xs) x × (keep x ≡ true)
-  at_place kept zero e again = (let same : y ≡ x = cc in ((zero, ap Some same), ap keep (sym same) ∙ kept))
-  at_place kept (suc n) e again = later (again (n, e))
-
-  go : (Has (filter keep xs) x → Has xs x × (keep x ≡ true)) → (b : Bool) → keep y ≡ b → Has (filter keep (y ∷ xs)) x → Has (y ∷ xs) x × (keep x ≡ true)
-  go again true kept has = (let here : Has (y ∷ filter keep xs) x = subst (λ (l : List A). Has l x) (let same : filter keep (y ∷ xs) ≡ y ∷ filter keep xs = rw kept refl in same) has in at_place kept here.0 here.1 again)
-  go again false kept has = later (again (subst (λ (l : List A). Has l x) (let same : filter keep (y ∷ xs) ≡ filter keep xs = rw kept refl in same) has))
 
 -- an instruction on ints stores nothing
 stores_nothing : (world : World) (method : MethodId) (instr : Instr) (s : Setting) (c : Config) → is_int_instruction world method instr ≡ true → stored_by instr s c ≡ []
@@ -117,9 +101,6 @@ module _ (world : World) (bounds : Bounds) (old : State) (at : IsAtInts world ol
       frames_later world old (reading_at world old input places) (reading_at world (canon nodes when) input places) (reading_later world old (canon nodes when) input places refl more) run.callers c.callers run.each
       run.waiting
 
-  unhandled : HaveNoHandlers world old.method (Runs run.frame run.callers)
-  unhandled = subst (HaveNoHandlers world old.method) run.is (begun_unhandled world old old.stage at.unhandled)
-
   place_is : instruction_at world c.frame.method c.frame.at ≡ instruction_at world (method_now old.method (begun_stage world old old.stage)) (offset_now (begun_stage world old old.stage))
   place_is =
       ap (λ (m : MethodId). instruction_at world m c.frame.at) run.stands.method ∙ ap (instruction_at world run.frame.method) run.stands.at
@@ -142,7 +123,7 @@ module _ (world : World) (bounds : Bounds) (old : State) (at : IsAtInts world ol
   runs_off : instruction_at world c.frame.method c.frame.at ≡ None → Follows (ill_typed world (begun world old))
   runs_off e =
       subst (λ (stage : Stage). Follows (ill_typed world (record old { stage = stage }))) (sym run.is)
-      (ill_typed_is world bounds old (sound_reached world old at.reached) input c stands run.frame run.callers unhandled 0 old.nodes (Extends-refl old.nodes) old.when
+      (ill_typed_is world bounds old (sound_reached world old at.reached) input c stands run.frame run.callers (run.sound, run.each) 0 old.nodes (Extends-refl old.nodes) old.when
       (framed old.nodes old.when (Extends-refl old.nodes)) (waiting old.nodes old.when (Extends-refl old.nodes)) (step_at None e))
 
   -- ---- an instruction is carried out
@@ -177,7 +158,7 @@ module _ (world : World) (bounds : Bounds) (old : State) (at : IsAtInts world ol
           let on : Extends old.nodes plan.state.nodes = Extends-trans old.nodes nodes plan.state.nodes more made.on.terms in
           let effect_is = plan_is s c found.1 (record old { when = when }) run.frame run.callers nodes variables R reads ordered (frame_terms nodes more) found.0 choice int has held rising in
           subst (λ (st : State). Follows (went world bounds found.1 st plan.way)) (sym made.rest)
-          (went_is world bounds old (sound_reached world old at.reached) input c stands run.frame run.callers unhandled found.1
+          (went_is world bounds old (sound_reached world old at.reached) input c stands run.frame run.callers (run.sound, run.each) found.1
           plan.state.nodes on when (framed plan.state.nodes when on) (waiting plan.state.nodes when on) (stores_at (Some found) there ∙ stores_nothing world run.frame.method found.0 s c int) plan.way (step_at (Some found) there ∙ effect_is))
 
     -- ---- it is taken up

@@ -62,10 +62,11 @@ use Rattle.kb_ways.specs.Ways.{with_stack, Goes, Jumps, Leaves, Fails}
 use Rattle.kb_ways.specs.Needs.{IsTermOf}
 use Rattle.kb_ways.specs.Operands.{int_term, an_int as one_int, two_ints}
 use Rattle.kb_stepint.proofs.ComparedLaws.{one_int_is, two_ints_are}
+use Rattle.kb_ways.proofs.TruthLaws.{equal_so}
 use Rattle.kb_ways.proofs.GrowLaws.{interned_extends, op_extends}
 use Rattle.kb_ways.proofs.AskedLaws.{interned_is_term, side_value}
 use Rattle.kb_ways.proofs.OneAsked.{AllHold}
-use Rattle.kb_stepint.proofs.OneListed.{AreRising, IsNoKey, branch_so, default_none, equal_so, fits_key, rising_none, rising_rest, table_rising}
+use Rattle.kb_stepint.proofs.OneListed.{AreRising, IsNoKey, branch_so, default_none, fits_key, rising_none, rising_rest, table_rising}
 use Rattle.kb_ways.proofs.BegunLaws.{AreStackTerms}
 use Rattle.kb_stepint.proofs.OneLaws.{one_term, two_terms}
 use Rattle.kb_ways.proofs.ValueLaws.{IsOrdered, constant_made, interned_ordered, low_made, op_made}

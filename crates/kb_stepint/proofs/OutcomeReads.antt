@@ -33,10 +33,11 @@ use Rattle.kb_frames.specs.Cuts.{setting_of}
 use Rattle.kb_frames.specs.FirstReads.{first_int}
 use Rattle.kb_frames.specs.Lent.{read_count}
 use Rattle.kb_frames.specs.Next.{argument_next}
-use Rattle.kb_frames.specs.StandsFor.{IsInstanceOf, StageStandsFor, StandsFor, reading_at, value_of_sym, values_of_sym}
+use Rattle.kb_frames.specs.StandsFor.{IsIndexNext, IsInstanceOf, StageStandsFor, StandsFor, reading_at, value_of_sym, values_of_sym}
 use Rattle.kb_frames.specs.State.{State}
 use Rattle.kb_frames.specs.States.{IsBeginning, IsStage, IsState}
 use Rattle.kb_stepint.specs.Takes.{reads_argument}
+use Rattle.kb_frames.proofs.ChosenLaws.{begins_chosen}
 use Rattle.kb_ways.proofs.OneInstances.{hold_last, many_values, read_met, shape_more, value_inputs, variables_more}
 use Rattle.kb_ways.proofs.OutcomeValues.{IsLater, heap_later, values_later}
 use Rattle.kb_picture.specs.declared.picture.Seen.TheVariants as seens
@@ -123,6 +124,7 @@ module _ (world : World) (bounds : Bounds) (old : State) (sound : IsState world 
         (λ has. (let k = (stands.written slot inside).0 has in record { object = k.object; place = k.place; value = k.value; cell = k.cell })),
         (λ k. (stands.written slot inside).1 (record { object = k.object; place = k.place; value = k.value; cell = k.cell })),
       );
+      chosen = begins_chosen world old read is sound.chosen (IsIndexNext world (reading_at world new input places) new);
     }
 
   -- what an instance holds is the int

@@ -7,15 +7,13 @@ use Rattle.kb_picture.specs.declared.choice.Choice.{Choice}
 use Rattle.kb_frames.specs.State.{State}
 use Rattle.kb_frames.specs.Next.{next_is_int}
 use Rattle.kb_stepint.specs.Choices.{choices_of}
-use Rattle.kb_ways.specs.Reached.{HaveNoHandlers, IsReached}
+use Rattle.kb_ways.specs.Reached.{IsReached}
 use Rattle.kb_stepint.specs.Takes.{taken}
 use Rattle.kb_ways.specs.Ways.{Take}
 
 -- The next step of the state is one of ints: an argument is read that is no reference, or the next instruction is one of ints.
--- For now no method of its frames has handlers.
 pub record IsAtInts (world : World) (state : State) : Type 0 where
   pub reached : IsReached world state
-  pub unhandled : HaveNoHandlers world state.method state.stage
   pub next : next_is_int world state ≡ true
 
 -- it holds of each such state

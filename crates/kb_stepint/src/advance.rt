@@ -5,7 +5,7 @@ ghost use Rattle.kb_picture.specs.declared.choice.Choice.TheVariants.{Only};
 ghost use Rattle.kb_stepint.specs.Choices.{choices_of};
 ghost use Rattle.kb_stepint.specs.Takes.{taken};
 ghost use Rattle.kb_ways.specs.Advancing.{IsAdvanced};
-ghost use Rattle.kb_ways.specs.Reached.{HaveNoHandlers, IsReached};
+ghost use Rattle.kb_ways.specs.Reached.{IsReached};
 
 use crate::NoMemory;
 use crate::choices::alternatives;
@@ -29,7 +29,6 @@ pub fn advance_int(
     bounds: &Bounds,
 ) -> Result<Advanced, NoMemory>
     requires reached { IsReached world.now state.old }
-    requires unhandled { HaveNoHandlers world.now state.old.method state.old.stage }
     requires int { next_is_int world.now state.old ≡ true }
     ensures advanced { IfOk result (IsAdvanced (choices_of world.now state.old bounds.now) (taken world.now bounds.now state.old Only) state.old state.new) }
     ensures reached { OnOk result (IsReached world.now state.new) }

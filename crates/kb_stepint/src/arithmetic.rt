@@ -3,7 +3,9 @@ ghost use Rattle.std.specs.Prelude.{◌≡◌, false, true, IfOk};
 ghost use Rattle.kb_terms.specs.Op.{is_binary};
 ghost use Rattle.kb_stepint.specs.Effects.{computes, computes_two, op_of, op_of_cut};
 ghost use Rattle.kb_ways.specs.Needs.{HasTerms, IsFor};
-ghost use Rattle.kb_ways.specs.Turns.{told, led_by};
+ghost use Rattle.kb_semantics.specs.Ways.{arithmetic};
+ghost use Rattle.kb_ways.specs.Turns.{told, led, led_by};
+ghost use Rattle.kb_ways.specs.Ways.{Throws};
 
 use crate::NoMemory;
 use kb_code::{IntCut, IntOp};
@@ -59,6 +61,14 @@ pub(crate) fn compute(turn: &Turn<'_>, state: &mut SymState, op: Op) -> Result<O
     replaces(turn, state, 1, &[SymValue::Int(value)])
 }
 
+// An ArithmeticException is thrown.
+fn throw_arithmetic(turn: &Turn<'_>, state: &mut SymState) -> Result<Outcome, NoMemory>
+    requires { IsFor turn.now state.old }
+    ensures { IfOk result (λ outcome. told state.new outcome ≡ led turn.now state.old (Throws arithmetic)) }
+{
+    throws(turn, state, ARITHMETIC)
+}
+
 /// iadd, isub, imul, idiv, irem, ishl, ishr, iushr, iand, ior, ixor
 pub(crate) fn compute_two(
     turn: &Turn<'_>,
@@ -74,7 +84,7 @@ pub(crate) fn compute_two(
         return ill_typed(turn, state);
     };
     if let Choice::Zero = choice {
-        return throws(turn, state, ARITHMETIC);
+        return throw_arithmetic(turn, state);
     }
     let value = make(state, op_of(op), left, Some(right))?;
     replaces(turn, state, 2, &[SymValue::Int(value)])

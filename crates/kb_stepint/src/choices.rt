@@ -1,11 +1,11 @@
 //! The alternatives of the next int step.
-ghost use Rattle.std.specs.Prelude.{◌≡◌, ◌++◌, ◌∷◌, [], Some, not, true, cond, filter, IfOk, OnOk};
+ghost use Rattle.std.specs.Prelude.{◌≡◌, ◌++◌, ◌∷◌, [], Some, not, true, filter, IfOk, OnOk};
 ghost use Rattle.kb_terms.specs.Terms.{IsTerm};
 ghost use Rattle.kb_frames.specs.Next.{next_is_int};
-ghost use Rattle.kb_ways.specs.Asked.{asked_truth, is_against, is_refuted};
+ghost use Rattle.kb_ways.specs.Asked.{is_refuted};
 ghost use Rattle.kb_stepint.specs.Choices.{both_ways, branch_conditions, choices_of, divisor_conditions, key_conditions, keys_from};
 ghost use Rattle.kb_stepint.specs.Questions.{HasTermsOf, offered_by};
-ghost use Rattle.kb_ways.specs.Needs.{AreSides, IsSide};
+ghost use Rattle.kb_ways.specs.Needs.{IsSide};
 ghost use Rattle.kb_ways.specs.Reached.{IsReached};
 ghost use Rattle.kb_stepint.specs.Keys.{keys_of};
 ghost use Rattle.kb_picture.specs.declared.choice.Choice.TheVariants.{Default, Key, NotZero, Zero};
@@ -20,7 +20,7 @@ use kb_heap::Bounds;
 use kb_picture::Choice;
 use kb_semantics::World;
 use kb_terms::TermId;
-use kb_ways::{Condition, Side, branch_condition, equals_number, is_against, only_way_on};
+use kb_ways::{Side, branch_condition, equals_number, is_against, offer, only_way_on};
 use std::alloc::Global;
 
 /// The alternatives of the next step of a state, in their order. Whether a branch is taken: not, then taken. Of a switch each
@@ -62,23 +62,6 @@ pub(crate) fn alternatives(
         IntQuestion::Key(x, keys) => key_choices(alloc, state, *x, keys),
         IntQuestion::Divisor(x) => zero_choices(alloc, state, *x),
     }
-}
-
-// Adds an alternative with one condition to a list, unless the condition is decided as false.
-fn offer(
-    state: &SymState,
-    condition: &Condition,
-    choice: Choice,
-    choices: &mut Vec<Choice>,
-) -> Result<(), NoMemory>
-    requires { AreSides state.now.nodes condition.now }
-    ensures { OnOk result (choices.new.items ≡ cond (is_against (asked_truth state.now condition.now) condition.now.truth) choices.old.items (choices.old.items ++ choice ∷ [])) }
-{
-    if is_against(state, condition) {
-        return Ok(());
-    }
-    choices.push(choice)?;
-    Ok(())
 }
 
 // Whether a branch is taken.

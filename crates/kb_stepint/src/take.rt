@@ -11,7 +11,7 @@ ghost use Rattle.kb_stepint.specs.Choices.{branch_conditions, choices_of, diviso
 ghost use Rattle.kb_stepint.specs.Looks.{IsLookAt};
 ghost use Rattle.kb_stepint.specs.Questions.{HasTermsOf, asks_for, conditions_by};
 ghost use Rattle.kb_ways.specs.Needs.{HasTerms, IsFor, IsSide};
-ghost use Rattle.kb_ways.specs.Reached.{HaveNoHandlers, IsReached};
+ghost use Rattle.kb_ways.specs.Reached.{IsReached};
 ghost use Rattle.kb_stepint.specs.Laws.{IsAtInts};
 ghost use Rattle.kb_stepint.specs.Takes.{reads_argument, taken};
 ghost use Rattle.kb_ways.specs.Plans.{takes_none};
@@ -39,7 +39,7 @@ use std::alloc::Global;
 ///
 /// After memory ran out the state is only dropped or undone. It takes time in proportion to the conditions that are added, and
 /// to the locals of the method where its first instruction is taken up, whatever the state has met; a throw fills the slots of
-/// its new object.
+/// its new object, and takes time in proportion to the frames that it leaves and the entries of their handler tables.
 pub fn take_int(
     alloc: Global,
     world: &World,
@@ -48,7 +48,6 @@ pub fn take_int(
     bounds: &Bounds,
 ) -> Result<Outcome, NoMemory>
     requires reached { IsReached world.now state.old }
-    requires unhandled { HaveNoHandlers world.now state.old.method state.old.stage }
     requires int { next_is_int world.now state.old ≡ true }
     requires listed { Has (choices_of world.now state.old bounds.now) choice.now }
     ensures take { IfOk result (λ outcome. told state.new outcome ≡ taken world.now bounds.now state.old choice.now) }

@@ -2,6 +2,7 @@
 use Rattle.std.proofs.Common.{◌≡◌, ℕ, suc, ◌<◌, ◌≤◌, ℤ, pos, Bool, true, false, List, [], ◌∷◌, ◌++◌, length, length-append, replicate, take, take-suc, slice_get, Option, Some, None, refl, sym, ap, subst, ◌∙◌, option_and_then, if◌then◌else◌, arith}
 use Rattle.std.specs.List.{slice_index_or}
 use Rattle.std.specs.Option.{option_map}
+use Rattle.std.specs.Prelude.{IfSome}
 use Rattle.std.proofs.lemmas.List.{append-nil, map-append}
 use Rattle.std.proofs.lemmas.Option.{get_or_from_slice_get, slice_get_within}
 use Rattle.std.proofs.Math.Seq.{get_or-append_seam}
@@ -56,21 +57,23 @@ use Rattle.kb_frames.specs.declared.value.SymValue.TheVariants.{Int}
 use Rattle.kb_frames.specs.Cuts.{setting_of}
 use Rattle.kb_frames.specs.FirstReads.{cells_chosen, first_int, first_reference, found_in, value_chosen, with_read}
 use Rattle.kb_frames.specs.Heaps.{find_cell, with_cell}
-use Rattle.kb_frames.specs.StandsFor.{IsInstanceOf, StageStandsFor, StandsFor, reading_at, value_of_sym}
+use Rattle.kb_frames.specs.StandsFor.{IsIndexNext, IsInstanceOf, StageStandsFor, StandsFor, reading_at, value_of_sym}
 use Rattle.kb_frames.specs.State.{State, cell_at}
-use Rattle.kb_frames.specs.States.{IsBeginning, IsStage, IsState}
-use Rattle.kb_ways.proofs.OneInstances.{hold_last, many_values, value_inputs}
+use Rattle.kb_frames.specs.States.{IsBeginning, IsStage}
+use Rattle.kb_ways.proofs.OneInstances.{hold_last, value_behind, variables_many}
 use Rattle.kb_ways.proofs.OutcomeValues.{reading_int}
+use Rattle.kb_ways.proofs.SoundLaws.{Sound}
+use Rattle.kb_ways.proofs.ValueLaws.{VariablesBelow, enough_below}
 use Rattle.kb_lazy.proofs.FitLaws.{fitting_choice}
 use Rattle.kb_lazy.specs.Choices.{read_choices_of}
 use Rattle.kb_stepref.specs.Choices.{alternatives}
 use Rattle.kb_ways.specs.Advancing.{only}
 use Rattle.kb_lazy.specs.Laws.{AreInRange}
-use Rattle.kb_stepref.specs.Laws.{IsAtReferences}
 use Rattle.kb_ways.specs.declared.question.Question.TheVariants.{Reads}
 use Rattle.kb_ways.specs.Questions.{answered, passed_by}
 use Rattle.kb_frames.proofs.AlikeLaws.{AreAlike, stage_alike, values_alike}
 use Rattle.kb_frames.proofs.CellLaws.{chosen_blank}
+use Rattle.kb_frames.proofs.ChosenLaws.{begins_chosen, chosen_alike}
 use Rattle.kb_frames.proofs.FindLaws.{Grows, grown_alike, learns_none, learns_slot, places_same, read_places}
 use Rattle.kb_stepref.proofs.ReadInstances.{int_values, told_values}
 use Rattle.kb_stepref.proofs.FirstReadLaws.{IsAsked, IsAskedAt, first_read}
@@ -94,7 +97,7 @@ pub record Finds (world : World) (old grown : State) (input : Input) (r : Readin
   pub grows : Grows world old r (reading_at world grown input places)
   pub held : slot_value input places.objects slot ≡ Some (value_of_sym (reading_at world grown input places) value)
 
-module _ (world : World) (bounds : Bounds) (old : State) (sound : IsState world old) (input : Input) (c : Config) (stands : StandsFor (setting_of world bounds) old input c) where
+module _ (world : World) (bounds : Bounds) (old : State) (sound : Sound world old) (input : Input) (c : Config) (stands : StandsFor (setting_of world bounds) old input c) where
   abbrev r : Reading
   r = reading_at world old input stands.instance_of.shape.places
 
@@ -103,8 +106,9 @@ module _ (world : World) (bounds : Bounds) (old : State) (sound : IsState world 
       → (i : IsInstanceOf (record old { stage = stage; picture = picture; cells = cells; nodes = nodes }) input)
       → Learns world old r (reading_at world (record old { stage = stage; picture = picture; cells = cells; nodes = nodes }) input i.shape.places) cells (first_heap world input.heap)
       → StageStandsFor (reading_at world (record old { stage = stage; picture = picture; cells = cells; nodes = nodes }) input i.shape.places) input stage c
+      → IfSome old.chosen (IsIndexNext world (reading_at world (record old { stage = stage; picture = picture; cells = cells; nodes = nodes }) input i.shape.places) (record old { stage = stage; picture = picture; cells = cells; nodes = nodes }))
       → StandsFor (setting_of world bounds) (record old { stage = stage; picture = picture; cells = cells; nodes = nodes }) input c
-  told_stands stage picture cells nodes i learns staged =
+  told_stands stage picture cells nodes i learns staged indexed =
       let new : State = record old { stage = stage; picture = picture; cells = cells; nodes = nodes } in
       let later : Reading = reading_at world new input i.shape.places in
       record {
@@ -116,6 +120,7 @@ module _ (world : World) (bounds : Bounds) (old : State) (sound : IsState world 
           (λ has. written_more world old new r later (first_heap world input.heap) learns slot ((stands.written slot inside).0 has)),
           (λ k. (stands.written slot inside).1 (written_back world old new r later (first_heap world input.heap) learns slot k)),
         );
+        chosen = indexed;
       }
 
   -- one argument more
@@ -159,6 +164,7 @@ module _ (world : World) (bounds : Bounds) (old : State) (sound : IsState world 
           told_stands old.stage picture (with_cell (old.cells ++ extra) object slot (Read value)) nodes i
           (learns_slot world old r later (first_heap world input.heap) grows extra blank object slot value untouched (held_first grows held))
           (stage_alike world old r later grows.alike input c old.stage sound.stage stands.stage)
+          (chosen_alike world old r later grows.alike old.method old.stage old.chosen sound.stage stands.chosen)
 
     pub found_stands : (slot : Origin) → IsBlank old slot → ((shape : HasShape picture input) → Finds world old grown input r slot value shape.places)
         → IsInstanceOf (found_in slot value grown) input → StandsFor (setting_of world bounds) (found_in slot value grown) input c
@@ -170,6 +176,7 @@ module _ (world : World) (bounds : Bounds) (old : State) (sound : IsState world 
         told_stands (with_read old.stage value) picture (old.cells ++ extra) nodes i
         (learns_none world old r later (first_heap world input.heap) found.grows extra blank)
         (subst (λ (stage : Stage). StageStandsFor later input (with_read stage value) c) (sym next.1) (argument_stands next.0 value later next.1 found.grows.alike at))
+        (begins_chosen world old next.0 next.1 sound.chosen (IsIndexNext world later (record old { stage = with_read old.stage value; picture = picture; cells = old.cells ++ extra; nodes = nodes })))
     found_stands (Field object slot) untouched finds i = slot_stands object slot i untouched (finds i.shape).grows (finds i.shape).held
     found_stands (Element array index) untouched finds i = slot_stands array index i untouched (finds i.shape).grows (finds i.shape).held
 
@@ -194,7 +201,7 @@ location_held picture slot input earlier places placed =
         ap (λ (l : PlaceLists). slot_value input l.objects slot) (sym whole) ∙ (place_inside input earlier.places.objects slot p at).0
         ∙ ap (λ (n : ℕ). Some (Ref n)) (sym last)
 
-module _ (world : World) (old : State) (sound : IsState world old) (input : Input) (earlier : HasShape old.picture input) (slot : Origin) where
+module _ (world : World) (old : State) (sound : Sound world old) (input : Input) (earlier : HasShape old.picture input) (slot : Origin) where
   abbrev reading : Reading
   reading = reading_at world old input earlier.places
 
@@ -242,7 +249,7 @@ module _ (world : World) (old : State) (sound : IsState world old) (input : Inpu
 
   -- ---- ints
 
-  module _ (kind : VarKind) where
+  module _ (below : VariablesBelow (variables_of old.nodes) old.nodes) (kind : VarKind) where
     abbrev variable : ℕ
     variable = variables_of old.nodes
 
@@ -269,7 +276,7 @@ module _ (world : World) (old : State) (sound : IsState world old) (input : Inpu
       same = int_places old.picture slot input earlier shape
 
       many : variable ≡ length variables
-      many = many_values world old input earlier.places.objects sound
+      many = variables_many world old input earlier.places.objects sound.kinds
 
       module _ (z : ℤ) (at : slot_value input shape.places.objects slot ≡ Some (IntValue z)) where
         variables_are : variable_values int_picture input shape.places.objects ≡ variables ++ z ∷ []
@@ -291,7 +298,7 @@ module _ (world : World) (old : State) (sound : IsState world old) (input : Inpu
             let enough : variables_of old.nodes ≤ length variables = (let exactly = many in omega (arith, exactly)) in
             ap (λ (vs : List ℤ). value_of nodes t vs) variables_are
             ∙ value_of-extends old.nodes nodes t (variables ++ z ∷ []) (extends-more old.nodes (Var variable kind)) there
-            ∙ value_inputs old.nodes t variables (z ∷ []) sound.pool enough
+            ∙ value_behind old.nodes t variables (z ∷ []) (enough_below variable (length variables) old.nodes enough below)
 
         int_grows : Grows world old reading now
         unfolding reading_at
@@ -319,7 +326,7 @@ module _ (world : World) (old : State) (sound : IsState world old) (input : Inpu
 
 -- ---- the answer
 
-module _ (world : World) (bounds : Bounds) (old : State) (sound : IsState world old) (input : Input) (c : Config) (stands : StandsFor (setting_of world bounds) old input c)
+module _ (world : World) (bounds : Bounds) (old : State) (sound : Sound world old) (input : Input) (c : Config) (stands : StandsFor (setting_of world bounds) old input c)
     (slot : Origin) (blank : IsBlank old slot) where
   abbrev shape_now : HasShape old.picture input
   shape_now = stands.instance_of.shape
@@ -336,7 +343,7 @@ module _ (world : World) (bounds : Bounds) (old : State) (sound : IsState world 
             (record old { picture = after_read old.picture slot choice; cells = old.cells ++ cells_chosen world choice; nodes = old.nodes }) shape;
       })
 
-  module _ (kind : VarKind) where
+  module _ (below : VariablesBelow (variables_of old.nodes) old.nodes) (kind : VarKind) where
     abbrev nodes_now : List Node
     nodes_now = old.nodes ++ Var (variables_of old.nodes) kind ∷ []
 
@@ -349,44 +356,44 @@ module _ (world : World) (bounds : Bounds) (old : State) (sound : IsState world 
     with_none : IsInstanceOf (after (old.cells ++ [])) input → StandsFor (setting_of world bounds) (after (old.cells ++ [])) input c
     with_none =
         found_stands world bounds old sound input c stands new_int (after_int_read old.picture slot) [] (λ n s. refl) nodes_now
-        slot blank (int_finds world old sound input shape_now slot kind (old.cells ++ []))
+        slot blank (int_finds world old sound input shape_now slot below kind (old.cells ++ []))
 
     -- an int or a boolean was
     pub int_stands : IsInstanceOf (first_int slot kind old) input → StandsFor (setting_of world bounds) (first_int slot kind old) input c
     int_stands = subst (λ (cells : List (List Cell)). IsInstanceOf (after cells) input → StandsFor (setting_of world bounds) (after cells) input c) (append-nil old.cells) with_none
 
 -- What was told is what the slot holds at the input: the state stands for the same configuration.
-pub answer_stands : (world : World) (bounds : Bounds) (params : ℕ) (old : State) (choice : Choice) (slot : Origin) (type : JType) (input : Input) (c : Config) → IsState world old
+pub answer_stands : (world : World) (bounds : Bounds) (params : ℕ) (old : State) (choice : Choice) (slot : Origin) (type : JType) (input : Input) (c : Config) → Sound world old → VariablesBelow (variables_of old.nodes) old.nodes
     → IsUnread world params old.picture slot → IsBlank old slot → (is_reference_type type ≡ true → IsChoiceIn old.picture choice) → passed_by choice ≡ None
     → StandsFor (setting_of world bounds) old input c → IsInstanceOf (answered world choice old (Reads slot type)) input
     → StandsFor (setting_of world bounds) (answered world choice old (Reads slot type)) input c
-answer_stands world bounds params old choice slot type input c sound unread blank speaks passed stands = go (is_reference_type type) refl where
+answer_stands world bounds params old choice slot type input c sound below unread blank speaks passed stands = go (is_reference_type type) refl where
   go : (b : Bool) → is_reference_type type ≡ b → IsInstanceOf (if b then first_reference world slot choice old else first_int slot (kind_for (Some type)) old) input
       → StandsFor (setting_of world bounds) (if b then first_reference world slot choice old else first_int slot (kind_for (Some type)) old) input c
   go true e = reference_stands world bounds old sound input c stands slot blank params choice unread (speaks e) passed
-  go false e = int_stands world bounds old sound input c stands slot blank (kind_for (Some type))
+  go false e = int_stands world bounds old sound input c stands slot blank below (kind_for (Some type))
 
 -- ---- what a step asks
 
 -- nothing is kept of the slot that is asked for
-asked_blank : (world : World) (bounds : Bounds) (state : State) (slot : Origin) (type : JType) → IsAskedAt world bounds state slot type → IsBlank state slot
+pub asked_blank : (world : World) (bounds : Bounds) (state : State) (slot : Origin) (type : JType) → IsAskedAt world bounds state slot type → IsBlank state slot
 asked_blank world bounds state (Arg number) type is = (is.read, is.begins, is.number_is)
 asked_blank world bounds state (Field object slot) type is = is.cell
-asked_blank world bounds state (Element array index) type is = absurd is
+asked_blank world bounds state (Element array index) type is = is.cell
 
-module _ (world : World) (bounds : Bounds) (state : State) (choice : Choice) (small : AreInRange bounds) (at : IsAtReferences world state) (slot : Origin) (type : JType)
-    (is : IsAsked world bounds state at.reached.typed slot type) where
+module _ (world : World) (bounds : Bounds) (state : State) (choice : Choice) (small : AreInRange bounds) (sound : Sound world state) (below : VariablesBelow (variables_of state.nodes) state.nodes) (slot : Origin) (type : JType)
+    (is : IsAsked world bounds state sound.typed slot type) where
   -- an alternative of a reference speaks of what is there
   speaks : is_reference_type type ≡ true → Has (alternatives world state bounds (Reads slot type)) choice → IsChoiceIn state.picture choice
   speaks e has =
       let offered : Has (read_choices_of state.init world state.picture slot type (is_receiver world state.method slot) bounds.k bounds.array) choice =
       subst (λ (b : Bool). Has (if b then read_choices_of state.init world state.picture slot type (is_receiver world state.method slot) bounds.k bounds.array else only) choice) e has in
       (fitting_choice state.init world state.method state.picture slot type (is_receiver world state.method slot) bounds.k bounds.array offered.0 choice
-      (first_read world bounds state at.reached.typed slot type is e) small offered.1).speaks
+      (first_read world bounds state sound.typed slot type is e) small.array offered.1).speaks
 
   -- The answer of an alternative that passes no bound stands for the same configuration.
   pub asked_stands : Has (alternatives world state bounds (Reads slot type)) choice → passed_by choice ≡ None → (input : Input) (c : Config) → StandsFor (setting_of world bounds) state input c
       → IsInstanceOf (answered world choice state (Reads slot type)) input → StandsFor (setting_of world bounds) (answered world choice state (Reads slot type)) input c
   asked_stands has passed input c stands =
-      answer_stands world bounds (params_of world at.reached.typed.method) state choice slot type input c at.reached.sound is.unread
+      answer_stands world bounds (params_of world sound.typed.method) state choice slot type input c sound below is.unread
       (asked_blank world bounds state slot type is.from) (λ e. speaks e has) passed stands

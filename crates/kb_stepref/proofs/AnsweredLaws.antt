@@ -49,21 +49,21 @@ use Rattle.kb_frames.specs.declared.value.Cell.{Cell}
 use Rattle.kb_frames.specs.declared.value.Cell.TheVariants.{Untouched, Read}
 use Rattle.kb_frames.specs.declared.value.SymValue.{SymValue}
 use Rattle.kb_frames.specs.declared.value.SymValue.TheVariants.{Int}
+use Rattle.kb_frames.specs.Arrays.{IsPlaceNext, array_next}
 use Rattle.kb_frames.specs.FirstReads.{cells_chosen, first_int, first_reference, found_in, new_cells, value_chosen, with_read}
 use Rattle.kb_frames.specs.Heaps.{find_cell, with_cell}
 use Rattle.kb_frames.specs.State.{State, cell_at}
 use Rattle.kb_frames.specs.States.{Each, HasCells, IsBeginning, IsCell, IsStage, IsSymValue, IsTouched}
 use Rattle.kb_ways.specs.Reached.{HasReadReceiver}
+use Rattle.kb_frames.proofs.ChosenLaws.{begins_chosen, chosen_kept, made_kept}
 use Rattle.kb_frames.proofs.ItemLaws.{each_append, each_cons, each_copy, no_items}
-use Rattle.kb_ways.proofs.SoundLaws.{Sound, sound_reached}
+use Rattle.kb_ways.proofs.SoundLaws.{Sound}
 use Rattle.kb_stepref.specs.Choices.{alternatives}
-use Rattle.kb_stepref.specs.Laws.{IsAtReferences}
 use Rattle.kb_ways.specs.declared.question.Question.TheVariants.{Reads}
-use Rattle.kb_stepref.specs.Questions.{question_of}
 use Rattle.kb_ways.specs.Questions.{answered}
 use Rattle.kb_frames.proofs.CellLaws.{front_found, front_touched, with_cell_length, with_here, with_touched}
 use Rattle.kb_stepref.proofs.FieldSlots.{get_front}
-use Rattle.kb_stepref.proofs.FirstReadLaws.{IsAsked, IsAskedAt, asked, first_read, holds_int}
+use Rattle.kb_stepref.proofs.FirstReadLaws.{IsAsked, IsAskedAt, first_read, holds_int}
 use Rattle.kb_frames.proofs.MoreLaws.{HaveRows, IsMore, made_more, rows_joined, rows_more, rows_with, running_more, values_more}
 use Rattle.kb_stepref.proofs.MoreLaws.{changed, changed_sound}
 use Rattle.kb_names.specs.declared.types.ExactType.TheVariants as exact
@@ -210,6 +210,7 @@ pub record Tells (world : World) (state : State) (slot : Origin) (value : SymVal
   pub kinds : kinds_of nodes ≡ kinds_seen world state.method picture
   pub slots : slots_seen picture ≡ slots_seen state.picture ++ slot ∷ []
   pub objects : length state.picture.objects ≤ length picture.objects
+  pub front : IsFrontOf state.picture.objects picture.objects
   pub locs : length state.picture.locs ≤ length picture.locs
   pub count : length cells ≡ length picture.objects
   pub touched : (number place : ℕ) → cell_at state.cells number place ≢ Untouched → cell_at cells number place ≢ Untouched
@@ -286,11 +287,12 @@ module _ (world : World) (state : State) (sound : Sound world state) (slot : Ori
           each = tells.rows read_state read_more;
           seen = seen_touched cells (λ number place was. was) (subst (IsTouched cells) (sym slot_is) tt);
         })
-        (made_more world state read_state read_more state.made sound.made) (begun_receiver read))
+        (made_more world state read_state read_more state.made sound.made) (begun_receiver read)
+        (begins_chosen world state read begins sound.chosen (IsPlaceNext world read_state)))
 
-  -- ---- a field
+  -- ---- a field, and an element
 
-  module _ (object place : ℕ) (slot_is : slot ≡ Field object place) (frame : SymFrame) (callers : List SymFrame) (running : state.stage ≡ Runs frame callers)
+  module _ (object place : ℕ) (slot_is : (rows : List (List Cell)) → cell_at rows object place ≢ Untouched → IsTouched rows slot) (frame : SymFrame) (callers : List SymFrame) (running : state.stage ≡ Runs frame callers)
       (cell : find_cell state.cells object place ≡ Some Untouched) where
     abbrev all : List (List Cell)
     all = with_cell cells object place (Read value)
@@ -302,15 +304,15 @@ module _ (world : World) (state : State) (sound : Sound world state) (slot : Ori
     told_more = record { terms = tells.terms; objects = tells.objects; locs = tells.locs; made = omega arith }
 
     here : IsTouched all slot
-    here = subst (IsTouched all) (sym slot_is) (λ none. read_is (sym (with_here cells object place (Read value) Untouched (tells.found object place Untouched cell)) ∙ none)) where
+    here = slot_is all (λ none. read_is (sym (with_here cells object place (Read value) Untouched (tells.found object place Untouched cell)) ∙ none)) where
       read_is : Read value ≡ Untouched → ⊥
       read_is e = cc
 
-    pub field_receiver : IsReceiverSeen world state.method picture
-    field_receiver = receiver_more (subst (λ (stage : Stage). HasReadReceiver world state.method stage state.picture) running sound.receiver)
+    pub slot_receiver : IsReceiverSeen world state.method picture
+    slot_receiver = receiver_more (subst (λ (stage : Stage). HasReadReceiver world state.method stage state.picture) running sound.receiver)
 
-    pub field_sound : Sound world (record state { picture = picture; cells = all; nodes = nodes })
-    field_sound =
+    pub slot_sound : Sound world (record state { picture = picture; cells = all; nodes = nodes })
+    slot_sound =
         changed_sound world state state.stage picture all state.made nodes sound tells.terms tells.typed tells.first tells.kinds
         (subst (IsStage world told_state) (sym running) (running_more world state told_state told_more frame callers (subst (IsStage world state) running sound.stage)))
         (record {
@@ -319,22 +321,17 @@ module _ (world : World) (state : State) (sound : Sound world state) (slot : Ori
           seen = seen_touched all (λ number at was. with_touched cells object place (Read value) number at (λ e. absurd (no_read e)) was) here;
         })
         (made_more world state told_state told_more state.made sound.made)
-        (subst (λ (stage : Stage). HasReadReceiver world state.method stage picture) (sym running) field_receiver)
+        (subst (λ (stage : Stage). HasReadReceiver world state.method stage picture) (sym running) slot_receiver)
+        (chosen_kept state told_state (record { objects = tells.front; made = made_kept state.made }) state.chosen (array_next world state.method state.stage) sound.chosen)
       where
         no_read : Read value ≡ Untouched → ⊥
         no_read e = cc
 
 -- ---- answers
 
-module _ (world : World) (bounds : Bounds) (state : State) (at : IsAtReferences world state) (slot : Origin) (type : JType) (asks : question_of world state bounds ≡ Some (Reads slot type)) where
+module _ (world : World) (bounds : Bounds) (state : State) (sound : Sound world state) (slot : Origin) (type : JType) (is_asked : IsAsked world bounds state sound.typed slot type) where
   abbrev typed : IsWellTyped world state.method state.picture
-  typed = at.reached.typed
-
-  sound : Sound world state
-  sound = sound_reached world state at.reached
-
-  is_asked : IsAsked world bounds state typed slot type
-  is_asked = asked world bounds state at slot type asks
+  typed = sound.typed
 
   -- an alternative for a reference is a choice for the slot
   pub offered_fits : (choice : Choice) → AreInRange bounds → is_reference_type type ≡ true → Has (alternatives world state bounds (Reads slot type)) choice
@@ -346,7 +343,7 @@ module _ (world : World) (bounds : Bounds) (state : State) (at : IsAtReferences 
     go : (b : Bool) → is_reference_type type ≡ b
         → Has (if b then read_choices_of state.init world state.picture slot type (is_receiver world state.method slot) bounds.k bounds.array else choices.Only ∷ []) choice
         → IsChoiceFor world state.method state.picture slot choice
-    go true is h = fitting_choice state.init world state.method state.picture slot type (is_receiver world state.method slot) bounds.k bounds.array h.0 choice first range h.1
+    go true is h = fitting_choice state.init world state.method state.picture slot type (is_receiver world state.method slot) bounds.k bounds.array h.0 choice first range.array h.1
     go false is h = (let never : true ≡ false = sym reference ∙ is in absurd cc)
 
   -- ---- a reference
@@ -380,6 +377,7 @@ module _ (world : World) (bounds : Bounds) (state : State) (at : IsAtReferences 
       kinds = sound.kinds ∙ sym (kinds_kept world state.method state.picture picture slot added.how typed objects_front added.seen added.plain);
       slots = slots_grown state.picture picture slot added.how added.seen;
       objects = omega (arith, many_objects, length-append state.picture.objects added.new);
+      front = objects_front;
       locs = added.locs;
       count = omega (arith, many_objects, length-append state.picture.objects added.new, length-append state.cells (cells_chosen world choice), added.many, sound.cells.count);
       touched = λ number place was. front_touched state.cells (cells_chosen world choice) number place was;
@@ -397,8 +395,9 @@ module _ (world : World) (bounds : Bounds) (state : State) (at : IsAtReferences 
       go (Arg number) is from =
           argument_sound world state sound slot (value_chosen state.picture choice) picture cells state.nodes tells_reference from.read from.begins (is ∙ ap Arg from.number_is)
       go (Field object place) is from =
-          field_sound world state sound slot (value_chosen state.picture choice) picture cells state.nodes tells_reference object place is from.frame from.callers from.running from.cell
-      go (Element array index) is from = absurd from
+          slot_sound world state sound slot (value_chosen state.picture choice) picture cells state.nodes tells_reference object place (λ rows was. subst (IsTouched rows) (sym is) was) from.frame from.callers from.running from.cell
+      go (Element object place) is from =
+          slot_sound world state sound slot (value_chosen state.picture choice) picture cells state.nodes tells_reference object place (λ rows was. subst (IsTouched rows) (sym is) was) from.frame from.callers from.running from.cell
 
     pub reference_receiver : IsReceiverSeen world state.method picture
     reference_receiver = go slot refl is_asked.from where
@@ -406,8 +405,9 @@ module _ (world : World) (bounds : Bounds) (state : State) (at : IsAtReferences 
       go (Arg number) is from =
           argument_receiver world state sound slot (value_chosen state.picture choice) picture cells state.nodes tells_reference from.read from.begins (is ∙ ap Arg from.number_is)
       go (Field object place) is from =
-          field_receiver world state sound slot (value_chosen state.picture choice) picture cells state.nodes tells_reference object place is from.frame from.callers from.running from.cell
-      go (Element array index) is from = absurd from
+          slot_receiver world state sound slot (value_chosen state.picture choice) picture cells state.nodes tells_reference object place (λ rows was. subst (IsTouched rows) (sym is) was) from.frame from.callers from.running from.cell
+      go (Element object place) is from =
+          slot_receiver world state sound slot (value_chosen state.picture choice) picture cells state.nodes tells_reference object place (λ rows was. subst (IsTouched rows) (sym is) was) from.frame from.callers from.running from.cell
 
   -- ---- an int
 
@@ -444,6 +444,7 @@ module _ (world : World) (bounds : Bounds) (state : State) (at : IsAtReferences 
       kinds = one_kind;
       slots = slots_grown state.picture seen slot (seens.Int (length (variables_seen state.picture))) refl;
       objects = omega arith;
+      front = λ i object at. at;
       locs = omega arith;
       count = sound.cells.count;
       touched = λ number place was. was;
@@ -457,16 +458,18 @@ module _ (world : World) (bounds : Bounds) (state : State) (at : IsAtReferences 
       go : (of : Origin) → slot ≡ of → IsAskedAt world bounds state of type → Sound world (found_in of value (record state { picture = seen; nodes = nodes }))
       go (Arg number) is from = (let never : true ≡ false = sym from.reference ∙ int in absurd cc)
       go (Field object place) is from =
-          field_sound world state sound slot value seen state.cells nodes tells_int object place is from.frame from.callers from.running from.cell
-      go (Element array index) is from = absurd from
+          slot_sound world state sound slot value seen state.cells nodes tells_int object place (λ rows was. subst (IsTouched rows) (sym is) was) from.frame from.callers from.running from.cell
+      go (Element object place) is from =
+          slot_sound world state sound slot value seen state.cells nodes tells_int object place (λ rows was. subst (IsTouched rows) (sym is) was) from.frame from.callers from.running from.cell
 
     pub int_receiver : IsReceiverSeen world state.method seen
     int_receiver = go slot refl is_asked.from where
       go : (of : Origin) → slot ≡ of → IsAskedAt world bounds state of type → IsReceiverSeen world state.method seen
       go (Arg number) is from = (let never : true ≡ false = sym from.reference ∙ int in absurd cc)
       go (Field object place) is from =
-          field_receiver world state sound slot value seen state.cells nodes tells_int object place is from.frame from.callers from.running from.cell
-      go (Element array index) is from = absurd from
+          slot_receiver world state sound slot value seen state.cells nodes tells_int object place (λ rows was. subst (IsTouched rows) (sym is) was) from.frame from.callers from.running from.cell
+      go (Element object place) is from =
+          slot_receiver world state sound slot value seen state.cells nodes tells_int object place (λ rows was. subst (IsTouched rows) (sym is) was) from.frame from.callers from.running from.cell
 
   -- ---- both
 

@@ -183,7 +183,7 @@ module _ (world : World) (bounds : Bounds) (old : State) (in_range : AreInRange 
 
     speaks : (kind : ExactType) (len : Length) → Has offered (choices.Fresh kind len) → IsLengthOf kind len
     speaks kind len has =
-        (fitting_choice old.init world old.method old.picture slot type receiver bounds.k bounds.array has.0 (choices.Fresh kind len) first in_range has.1).speaks
+        (fitting_choice old.init world old.method old.picture slot type receiver bounds.k bounds.array has.0 (choices.Fresh kind len) first in_range.array has.1).speaks
 
     cut_reference : (choice : Choice) (bound : Bound) (method : MethodId) → Has offered choice → passed_by choice ≡ Some bound → HasShape (after_read old.picture slot choice) input
         → IsLicensed world method bounds (after_read old.picture slot choice) bound input
@@ -199,6 +199,8 @@ module _ (world : World) (bounds : Bounds) (old : State) (in_range : AreInRange 
         let past : IsPastArray input bounds.array = subst (IsPastArray input) same (past_longer old.picture slot kind n input (speaks kind (Above n) has) shape) in
         let shown : HasLonger after bounds.array = subst (HasLonger after) same (shown_longer old.picture slot kind n) in
         subst (λ (b : Bound). IsLicensed world method bounds after b input) (same_Some Array bound passed) (past, shown)
+    cut_reference choices.TooLarge bound method has passed shape =
+        absurd ((fitting_choice old.init world old.method old.picture slot type receiver bounds.k bounds.array has.0 choices.TooLarge first in_range.array has.1).speaks)
     cut_reference _ bound method has passed shape = absurd cc
 
   -- either

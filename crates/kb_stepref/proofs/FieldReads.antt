@@ -4,6 +4,8 @@ use Rattle.std.proofs.Common.{◌≡◌, ℕ, Bool, true, false, Option, Some, N
 use Rattle.std.specs.Option.{option_and_then, option_map, option_map_or}
 use Rattle.kb_class.specs.declared.ids.MethodId.{MethodId}
 use Rattle.kb_code.specs.declared.instruction.Instr.{Instr}
+use Rattle.kb_code.specs.declared.instruction.Instr.TheVariants as instrs
+use Rattle.kb_heap.specs.declared.bounds.Bounds.{Bounds}
 use Rattle.kb_classes.specs.World.{World}
 use Rattle.kb_classes.specs.declared.slots.FieldSlot.{FieldSlot}
 use Rattle.kb_names.specs.declared.types.ExactType.{ExactType}
@@ -38,7 +40,8 @@ use Rattle.kb_stepref.specs.declared.fields.FieldAt.{FieldAt}
 use Rattle.kb_stepref.specs.Effects.{got, plan_of, reads}
 use Rattle.kb_stepref.specs.Fields.{has_slot_of}
 use Rattle.kb_stepref.specs.Looks.{IsReadBy, asks_at}
-use Rattle.kb_stepref.specs.Questions.{asked_by, asks_cell, asks_field}
+use Rattle.kb_steparray.specs.Questions.{asks}
+use Rattle.kb_stepref.specs.Questions.{asked_by, asks_cell, asks_field, asks_read}
 use Rattle.kb_stepref.proofs.FieldSlots.{get_front}
 use Rattle.kb_stepref.proofs.ReachedLaws.{found_picture}
 
@@ -52,13 +55,26 @@ read_plan world state instr at h =
     ∙ (ap (λ (it : Option FieldSlot). planned state it (λ (field : FieldSlot). planned state (a_reference (stack_of state.stage)) (got world state field))) (sym h.named)
     ∙ ap (plan_of world state Only) (sym h.instr_is)))
 
+-- by whichever alternative
+pub read_choice : (world : World) (state : State) (choice : Choice) (instr : Instr) (at : FieldAt) → IsReadBy world state instr at → plan_of world state Only instr ≡ plan_of world state choice instr
+read_choice world state choice instr at h = ap (plan_of world state Only) h.instr_is ∙ ap (plan_of world state choice) (sym h.instr_is)
+
 -- what the instruction asks is asked of it
-pub read_asks : (world : World) (state : State) (instr : Instr) (at : FieldAt) → IsReadBy world state instr at → asked_by world state instr ≡ asks_at state at
+pub read_asks : (world : World) (state : State) (instr : Instr) (at : FieldAt) → IsReadBy world state instr at → asks_read world state instr ≡ asks_at state at
 read_asks world state instr at h =
-    ap (asked_by world state) h.instr_is
+    ap (asks_read world state) h.instr_is
     ∙ (ap (option_and_then (λ (field : FieldSlot). asks_field world state field (slice_get (stack_of state.stage) 0))) h.named
     ∙ (ap (asks_field world state at.field.now) h.top
     ∙ ap (λ (has : Bool). asks_cell at.object at.field.now (if has then find_cell state.cells at.object at.field.now.slot else None)) h.has_it))
+
+pub read_asked : (bounds : Bounds) (world : World) (state : State) (instr : Instr) (at : FieldAt) → IsReadBy world state instr at → asked_by bounds world state instr ≡ asks_at state at
+read_asked bounds world state instr at h =
+    ap (asked_by bounds world state) h.instr_is ∙ (ap (asks_read world state) (sym h.instr_is) ∙ read_asks world state instr at h)
+
+-- what is no getfield that asks has the questions of the instructions on arrays
+pub else_asked : (bounds : Bounds) (world : World) (state : State) (instr : Instr) → asks_read world state instr ≡ None → asked_by bounds world state instr ≡ asks bounds world state instr
+else_asked bounds world state (instrs.GetField entry) none = none
+else_asked bounds world state _ none = refl
 
 -- ---- where the run begins
 
@@ -115,6 +131,20 @@ module _ (world : World) (choice : Choice) (state : State) (slot : Origin) (type
         top = ap (λ (s : Stage). slice_get (stack_of s) 0) stage ∙ h.top;
         has_it = has_stays at.field.now at.object h.has_it;
       }
+
+-- nor is it another one where only terms, conditions and the place that is chosen are others
+pub same_read : (world : World) (old new : State) → new.method ≡ old.method → new.stage ≡ old.stage → new.picture ≡ old.picture → (instr : Instr) (at : FieldAt) → IsReadBy world old instr at → IsReadBy world new instr at
+same_read world old new method stage picture instr at h =
+    let same : method_now new.method new.stage ≡ method_now old.method old.stage = ap (λ (id : MethodId). method_now id new.stage) method ∙ ap (method_now old.method) stage in
+    record {
+      entry = h.entry;
+      instr_is = h.instr_is;
+      named = ap (λ (id : MethodId). resolved_field world (class_number world id) h.entry) same ∙ h.named;
+      top = ap (λ (s : Stage). slice_get (stack_of s) 0) stage ∙ h.top;
+      has_it =
+          ap (λ (p : Picture). option_map_or (λ (kind : ExactType). has_field world kind at.field.now) (option_map (λ (object : PicObject). object.kind) (slice_get p.objects at.object)) false) picture
+          ∙ h.has_it;
+    }
 
 -- ---- parts
 

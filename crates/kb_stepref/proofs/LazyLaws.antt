@@ -1,6 +1,6 @@
 -- Under lazy initialisation no location is chosen: a picture of objects alone stays one, and where no bound is passed nothing
 -- is beyond.
-use Rattle.std.proofs.Common.{◌≡◌, ℕ, inl, inr, Bool, true, false, cond, List, [], ◌∷◌, ◌++◌, length, map, filter, nat_lt, suc, None, refl, ap, subst}
+use Rattle.std.proofs.Common.{◌≡◌, ℕ, inl, inr, Bool, true, false, cond, List, [], ◌∷◌, ◌++◌, length, map, filter, nat_lt, slice_get, suc, Some, None, refl, sym, ap, subst}
 use Rattle.std.specs.List.{AllByRecursion, flat_map}
 use Rattle.kb_class.proofs.Lists.{has_cases, has_either, has_none}
 use Rattle.kb_class.specs.Naming.{Has}
@@ -13,7 +13,8 @@ use Rattle.kb_semantics.specs.Looks.{numbers_below}
 use Rattle.kb_picture.specs.declared.choice.Choice.{Choice}
 use Rattle.kb_picture.specs.declared.choice.Choice.TheVariants as choices
 use Rattle.kb_picture.specs.declared.choice.Init.TheVariants.{Lazy}
-use Rattle.kb_picture.specs.declared.picture.Length.TheVariants.{Is, Above}
+use Rattle.kb_picture.specs.declared.picture.Length.{Length}
+use Rattle.kb_picture.specs.declared.picture.Length.TheVariants.{Plain, Is, Above}
 use Rattle.kb_picture.specs.declared.picture.Origin.{Origin}
 use Rattle.kb_picture.specs.declared.picture.PicLoc.{PicLoc}
 use Rattle.kb_picture.specs.declared.picture.PicObject.{PicObject}
@@ -24,9 +25,12 @@ use Rattle.kb_picture.specs.declared.picture.Standing.TheVariants as standings
 use Rattle.kb_picture.specs.Depths.{depth_at}
 use Rattle.kb_picture.specs.Growth.{after_read, with_fresh}
 use Rattle.kb_picture.specs.Laws.{with_seen}
+use Rattle.kb_picture.specs.WellTyped.{IsIntLength}
 use Rattle.kb_lazy.specs.Choices.{aliases, aliases_from, all_new, beyond_where, fresh_objects, has_fitting, new_objects, null_unless, read_choices_of}
 use Rattle.kb_lazy.specs.Laws.{HasNoBeyond}
-use Rattle.kb_ways.specs.Questions.{passed_by}
+use Rattle.kb_ways.specs.Questions.{passed_by, passed_by_length}
+use Rattle.kb_steparray.specs.Arrays.{AreCounted, IsCountedLength}
+use Rattle.kb_classes.proofs.Places.{get_pushed}
 use Rattle.kb_stepref.proofs.FieldSlots.{all_joined}
 
 -- ---- what is offered
@@ -124,3 +128,25 @@ module _ (picture : Picture) (slot : Origin) where
       (object_is_seen (length picture.objects)) none
   known_no_beyond choices.Beyond known passed none = absurd cc
   known_no_beyond _ known passed none = none
+
+  -- nor is an array above the bound, and an int counts its elements
+  pub known_counted : (choice : Choice) → passed_by choice ≡ None → ((number : ℕ) (object : PicObject) → slice_get (after_read picture slot choice).objects number ≡ Some object → IsIntLength object.length)
+      → AreCounted picture → AreCounted (after_read picture slot choice)
+  unfolding after_read
+  known_counted choices.Null passed ints counted = counted
+  known_counted choices.Location passed ints counted = counted
+  known_counted (choices.Alias number) passed ints counted = counted
+  known_counted (choices.Fresh kind len) passed ints counted = λ number object at. elim (get_pushed picture.objects (record { kind = kind; length = len; origin = slot }) number object at) [
+    | inl h ↦ counted number object h
+    | inr h ↦ (
+        let int : IsIntLength len = subst (λ (o : PicObject). IsIntLength o.length) (sym h.1) (ints number object at) in
+        subst (λ (o : PicObject). IsCountedLength o.length) h.1 (of_length len passed int)
+        )
+  ]
+    where
+      of_length : (length : Length) → passed_by_length length ≡ None → IsIntLength length → IsCountedLength length
+      of_length Plain passed int = tt
+      of_length (Is n) passed int = int
+      of_length (Above n) passed int = absurd cc
+  known_counted choices.Beyond passed ints counted = counted
+  known_counted _ passed ints counted = counted

@@ -1,43 +1,67 @@
 -- Each take of a step on references leaves fewer choices before the same instruction, or has carried out one more.
-use Rattle.std.proofs.Common.{◌≡◌, ℕ, ◌-◌, ◌<◌, [], ◌∷◌, ◌++◌, length, length-append, nat_le, Option, Some, None, refl, sym, ap, subst, ◌∙◌}
+use Rattle.std.proofs.Common.{◌≡◌, ℕ, ◌-◌, ◌<◌, [], ◌∷◌, ◌++◌, length, length-append, nat_le, Option, Some, None, refl, sym, ap, subst, ◌∙◌, option_and_then}
 use Rattle.std.specs.Option.{option_map_or}
+use Rattle.std.proofs.lemmas.Option.{none-some}
+use Rattle.kb_class.specs.declared.ids.MethodId.{MethodId}
 use Rattle.kb_class.specs.declared.members.MethodInfo.{MethodInfo}
+use Rattle.kb_code.specs.declared.instruction.Elem.{Elem}
 use Rattle.kb_code.specs.declared.instruction.Instr.{Instr}
+use Rattle.kb_code.specs.declared.instruction.Instr.TheVariants as instrs
 use Rattle.kb_heap.specs.declared.bounds.Bound.{Bound}
 use Rattle.kb_heap.specs.declared.bounds.Bounds.{Bounds}
 use Rattle.kb_classes.specs.World.{World}
 use Rattle.kb_names.specs.declared.types.JType.{JType}
 use Rattle.kb_semantics.specs.Config.{info_of, instruction_at}
 use Rattle.kb_semantics.specs.Inputs.{argument_types}
+use Rattle.kb_semantics.specs.Values.{takes_component}
+use Rattle.kb_terms.specs.declared.node.TermId.{TermId}
 use Rattle.kb_picture.specs.declared.choice.Choice.{Choice}
 use Rattle.kb_picture.specs.declared.picture.Origin.{Origin}
 use Rattle.kb_picture.specs.declared.picture.Origin.TheVariants.{Arg, Field, Element}
+use Rattle.kb_picture.specs.Queries.{kind_for}
 use Rattle.kb_picture.specs.WellTyped.{is_reference_type}
 use Rattle.kb_frames.specs.declared.state.Stage.{Stage}
 use Rattle.kb_frames.specs.declared.state.Stage.TheVariants.{Begins, Runs}
 use Rattle.kb_frames.specs.declared.value.SymValue.{SymValue}
 use Rattle.kb_frames.specs.declared.value.SymValue.TheVariants.{Int}
 use Rattle.kb_frames.specs.declared.value.Outcome.TheVariants.{Asks}
-use Rattle.kb_frames.specs.FirstReads.{value_chosen, with_read}
-use Rattle.kb_frames.specs.Lent.{begun}
-use Rattle.kb_ways.specs.Measure.{choices_left, left_of, questions_of, unread_at}
+use Rattle.kb_frames.specs.Arrays.{index_next, index_on}
+use Rattle.kb_frames.specs.FirstReads.{first_int, first_reference, value_chosen}
+use Rattle.kb_frames.specs.Lent.{begun, stack_of}
+use Rattle.kb_ways.specs.Measure.{choices_left, unread_at}
 use Rattle.kb_frames.specs.Next.{argument_next, instruction_next, method_now, offset_now}
 use Rattle.kb_frames.specs.State.{State}
 use Rattle.kb_ways.specs.Simulation.{GetsOn}
 use Rattle.kb_ways.specs.Ways.{Take, ill_typed}
-use Rattle.kb_ways.proofs.GrowLaws.{if_has, option_has}
-use Rattle.kb_ways.proofs.MeasureLaws.{reads_on, went_on}
+use Rattle.kb_ways.proofs.GrowLaws.{all_asked_grows, if_has, option_has}
+use Rattle.kb_ways.proofs.KeepLaws.{Stays}
+use Rattle.kb_ways.proofs.MeasureLaws.{argument_on, place_on, went_on}
+use Rattle.kb_steparray.specs.Arrays.{Array, array_of}
+use Rattle.kb_steparray.specs.Operands.{an_element_and_value}
+use Rattle.kb_steparray.specs.Questions.{asks_store, asks_unless}
 use Rattle.kb_stepref.specs.Effects.{plan_of}
 use Rattle.kb_stepref.specs.Laws.{IsAtReferences}
 use Rattle.kb_ways.specs.declared.question.Question.{Question}
 use Rattle.kb_ways.specs.declared.question.Question.TheVariants.{Reads}
-use Rattle.kb_stepref.specs.Questions.{question_of}
-use Rattle.kb_ways.specs.Questions.{answered, answers, cut_where, passed_by}
+use Rattle.kb_ways.specs.declared.question.Question.TheVariants as questions
+use Rattle.kb_ways.specs.Asked.{all_asked}
+use Rattle.kb_ways.specs.Choosing.{index_conditions, length_conditions}
+use Rattle.kb_stepref.specs.Questions.{asked_by, question_of}
+use Rattle.kb_ways.specs.Questions.{answered, answers, asked_next, asks, behind_index, cut_where, passed_by, with_place}
 use Rattle.kb_stepref.specs.Takes.{taken}
 use Rattle.kb_ways.specs.Plans.{carried_out, takes_next, takes_up}
-use Rattle.kb_stepref.proofs.FirstReadLaws.{IsAsked, IsAskedArgument, asked}
-use Rattle.kb_stepref.proofs.KeepLaws.{answered_carried, plan_writes}
-use Rattle.kb_picture.specs.declared.choice.Choice.TheVariants.{Only}
+use Rattle.kb_stepref.proofs.FirstReadLaws.{IsAsked, IsAskedArgument, IsAskedIndex, asked, asked_at_references}
+use Rattle.kb_stepref.proofs.KeepLaws.{index_carried, index_has, index_stage, index_stays, int_tells, plan_writes}
+use Rattle.kb_stepref.proofs.SoundLaws.{answered_carried}
+use Rattle.kb_picture.specs.declared.choice.Choice.TheVariants.{Index, Only}
+
+-- a store whose place is chosen asks nothing
+store_quiet : (state : State) (elem : Elem) (place : ℕ) → state.chosen ≡ Some place → (operands : Option (SymValue × TermId × SymValue)) → asks_store state elem operands ≡ None
+store_quiet state elem place chosen None = refl
+store_quiet state elem place chosen (Some t) = go (array_of state (takes_component elem) t.0) where
+  go : (it : Option Array) → option_and_then (λ (a : Array). asks_unless state.chosen (questions.Index t.1 a.length)) it ≡ None
+  go None = refl
+  go (Some a) = ap (λ (c : Option ℕ). asks_unless c (questions.Index t.1 a.length)) chosen
 
 module _ (world : World) (bounds : Bounds) (old : State) where
   abbrev Gets : Take → Type 0
@@ -45,34 +69,20 @@ module _ (world : World) (bounds : Bounds) (old : State) where
 
   -- ---- instructions
 
-  carried_out_on : (state : State) (found : Instr × ℕ) → state.carried ≡ old.carried → Gets (carried_out plan_of world bounds Only state found)
-  carried_out_on state found e =
-      let plan = plan_of world state Only found.0 in
-      went_on world bounds old found.1 plan.state plan.way ((plan_writes world state found.0).carried ∙ e)
+  carried_out_on : (choice : Choice) (state : State) (found : Instr × ℕ) → state.carried ≡ old.carried → Gets (carried_out plan_of world bounds choice state found)
+  carried_out_on choice state found e =
+      let plan = plan_of world state choice found.0 in
+      went_on world bounds old found.1 plan.state plan.way ((plan_writes world state choice found.0).carried ∙ e)
 
-  takes_up_on : (state : State) → state.carried ≡ old.carried → Gets (takes_up plan_of world bounds Only state)
-  takes_up_on state e =
-      option_has Gets (instruction_at world (method_now state.method state.stage) (offset_now state.stage)) (carried_out plan_of world bounds Only state) (ill_typed world state)
-      (λ found. carried_out_on state found e) tt
+  takes_up_on : (choice : Choice) (state : State) → state.carried ≡ old.carried → Gets (takes_up plan_of world bounds choice state)
+  takes_up_on choice state e =
+      option_has Gets (instruction_at world (method_now state.method state.stage) (offset_now state.stage)) (carried_out plan_of world bounds choice state) (ill_typed world state)
+      (λ found. carried_out_on choice state found e) tt
 
   takes_next_on : Gets (takes_next plan_of world bounds Only old)
-  takes_next_on = if_has Gets (nat_le bounds.run.steps old.carried) _ (takes_up plan_of world bounds Only (begun world old)) tt (takes_up_on (begun world old) refl)
+  takes_next_on = if_has Gets (nat_le bounds.run.steps old.carried) _ (takes_up plan_of world bounds Only (begun world old)) tt (takes_up_on Only (begun world old) refl)
 
   -- ---- arguments
-
-  -- what is left at a stage
-  abbrev left_at : Stage → ℕ
-  left_at stage = left_of (unread_at world old.method stage) (option_map_or questions_of (instruction_next world old.method stage) 0)
-
-  -- whatever the argument is
-  same_left : (stage : Stage) (one other : SymValue) → left_at (with_read stage one) ≡ left_at (with_read stage other)
-  same_left (Begins read) one other =
-      let many : length (read ++ one ∷ []) ≡ length (read ++ other ∷ []) = length-append read (one ∷ []) ∙ sym (length-append read (other ∷ [])) in
-      ap (λ (n : ℕ). left_of (option_map_or (λ (info : MethodInfo). length (argument_types world info)) (info_of world old.method) 0 - n) (option_map_or questions_of (instruction_next world old.method (Begins [])) 0)) many
-  same_left (Runs frame callers) one other = refl
-
-  argument_on : (type : JType) (value : SymValue) → argument_next world old.method old.stage ≡ Some type → left_at (with_read old.stage value) < choices_left world old
-  argument_on type value e = subst (λ (n : ℕ). n < choices_left world old) (same_left old.stage (Int (record { 0 = length old.nodes })) value) (reads_on world bounds old old.stage type refl e)
 
   -- behind an argument the next choice is asked for, unless the input goes beyond a bound
   cut_on : (bound : Option Bound) (state : State) → state.carried ≡ old.carried → choices_left world state < choices_left world old → Gets (cut_where bound state (record { state = state; outcome = Asks }))
@@ -80,29 +90,88 @@ module _ (world : World) (bounds : Bounds) (old : State) where
   cut_on (Some bound) state e less = tt
 
   cut_behind : (bound : Option Bound) (state : State) → state.carried ≡ old.carried → Gets (cut_where bound state (takes_up plan_of world bounds Only state))
-  cut_behind None state e = takes_up_on state e
+  cut_behind None state e = takes_up_on Only state e
   cut_behind (Some bound) state e = tt
 
   answered_less : (choice : Choice) (number : ℕ) (type : JType) → argument_next world old.method old.stage ≡ Some type
       → choices_left world (answered world choice old (Reads (Arg number) type)) < choices_left world old
   answered_less choice number type e =
-      if_has (λ (s : State). choices_left world s < choices_left world old) (is_reference_type type) _ _ (argument_on type (value_chosen old.picture choice) e)
-      (argument_on type (Int (record { 0 = length old.nodes })) e)
+      if_has (λ (s : State). choices_left world s < choices_left world old) (is_reference_type type) _ _
+      (argument_on world bounds old (first_reference world (Arg number) choice old) (value_chosen old.picture choice) old.stage type refl e refl refl)
+      (argument_on world bounds old (first_int (Arg number) (kind_for (Some type)) old) (Int (record { 0 = length old.nodes })) old.stage type refl e refl refl)
 
   -- ---- all takes
 
   module _ (choice : Choice) (at : IsAtReferences world old) where
-    answers_on : (slot : Origin) (type : JType) → IsAsked world bounds old at.reached.typed slot type → Gets (answers plan_of world bounds choice old (Reads slot type))
+    answers_on : (slot : Origin) (type : JType) → IsAsked world bounds old at.reached.typed slot type → Gets (answers (asked_by bounds) plan_of world bounds choice old (Reads slot type))
     answers_on (Arg number) type is =
         let a : IsAskedArgument world old number type = is.from in
         let next : argument_next world old.method old.stage ≡ Some type = subst (λ (stage : Stage). argument_next world old.method stage ≡ Some type) (sym a.begins) a.next in
-        cut_on (passed_by choice) (answered world choice old (Reads (Arg number) type)) (answered_carried world choice old (Reads (Arg number) type)) (answered_less choice number type next)
+        cut_on (passed_by choice) (answered world choice old (Reads (Arg number) type)) (answered_carried world choice old (Arg number) type) (answered_less choice number type next)
     answers_on (Field object slot) type is =
-        cut_behind (passed_by choice) (answered world choice old (Reads (Field object slot) type)) (answered_carried world choice old (Reads (Field object slot) type))
-    answers_on (Element array index) type is = absurd is.from
+        cut_behind (passed_by choice) (answered world choice old (Reads (Field object slot) type)) (answered_carried world choice old (Field object slot) type)
+    answers_on (Element array index) type is =
+        cut_behind (passed_by choice) (answered world choice old (Reads (Element array index) type)) (answered_carried world choice old (Element array index) type)
+
+    -- behind an index the next choice is that of the element, and else the instruction is carried out
+    module _ (x : TermId) (count : ℕ) (is : IsAskedIndex world bounds old x count) where
+      abbrev told : State
+      told = answered world choice old (questions.Index x count)
+
+      stays : Stays old told
+      stays = index_stays world choice old x count
+
+      same_stage : told.stage ≡ old.stage
+      same_stage = index_stage world choice old x count
+
+      same_carried : told.carried ≡ old.carried
+      same_carried = index_carried world choice old x count
+
+      next_there : (instr : Instr) → instruction_next world old.method old.stage ≡ Some instr → instruction_next world told.method told.stage ≡ Some instr
+      next_there instr there = ap (λ (m : MethodId). instruction_next world m told.stage) stays.method ∙ (ap (instruction_next world old.method) same_stage ∙ there)
+
+      -- of a load the element is left to be told, and of a store nothing
+      asks_less : (place : ℕ) (q : Question) → choice ≡ Index place → asked_next (asked_by bounds) world told ≡ Some q → Gets (asks told)
+      asks_less place q chosen asked = by_instruction is.by.instr is.by.instruction top where
+        placed_now : told.chosen ≡ Some place
+        placed_now = ap (λ (c : Choice). (with_place c (all_asked old (index_conditions x count choice))).chosen) chosen
+
+        top : index_on is.by.frame.stack is.by.instr ≡ Some (Int x)
+        top =
+            sym (ap (option_and_then (index_on is.by.frame.stack)) (sym (ap (instruction_next world old.method) is.by.running) ∙ is.by.instruction))
+            ∙ (sym (ap (index_next world old.method) is.by.running) ∙ is.index_is)
+
+        unread : unread_at world old.method old.stage ≡ 0
+        unread = ap (unread_at world old.method) is.by.running
+
+        by_instruction : (instr : Instr) → instruction_next world old.method old.stage ≡ Some instr → index_on is.by.frame.stack instr ≡ Some (Int x) → Gets (asks told)
+        by_instruction (instrs.LoadElem elem) there at =
+            (same_carried, place_on world bounds old told elem place unread there is.unchosen stays.method same_stage placed_now)
+        by_instruction (instrs.StoreElem elem) there at =
+            absurd (none-some q (sym (store_quiet told elem place placed_now (an_element_and_value elem (stack_of told.stage))) ∙ (sym (ap (option_and_then (asked_by bounds world told)) (next_there (instrs.StoreElem elem) there)) ∙ asked)))
+        by_instruction _ there at = absurd (none-some (Int x) at)
+
+      index_on_less : Gets (answers (asked_by bounds) plan_of world bounds choice old (questions.Index x count))
+      index_on_less = go (passed_by choice) where
+        go : (bound : Option Bound) → Gets (cut_where bound told (behind_index (asked_by bounds) plan_of world bounds choice told))
+        go None =
+            index_has world bounds Gets choice told asks_less (takes_up_on choice told same_carried)
+            (λ place slot type chosen asked plain. takes_up_on choice (first_int slot (kind_for (Some type)) told) ((int_tells slot (kind_for (Some type)) told).carried ∙ same_carried))
+        go (Some bound) = tt
+
+    length_on : (x : TermId) (most : ℕ) → Gets (answers (asked_by bounds) plan_of world bounds choice old (questions.Length x most))
+    length_on x most = go (passed_by choice) where
+      told : State
+      told = answered world choice old (questions.Length x most)
+
+      go : (bound : Option Bound) → Gets (cut_where bound told (takes_up plan_of world bounds choice told))
+      go None = takes_up_on choice told (ap (λ (s : State). s.carried) (all_asked_grows (length_conditions x most choice) old).rest)
+      go (Some bound) = tt
 
     pub gets_on : Gets (taken world bounds old choice)
     gets_on = go (question_of world old bounds) refl where
-      go : (q : Option Question) → question_of world old bounds ≡ q → Gets (option_map_or (answers plan_of world bounds choice old) q (takes_next plan_of world bounds Only old))
+      go : (q : Option Question) → question_of world old bounds ≡ q → Gets (option_map_or (answers (asked_by bounds) plan_of world bounds choice old) q (takes_next plan_of world bounds Only old))
       go None e = takes_next_on
       go (Some (Reads slot type)) e = answers_on slot type (asked world bounds old at slot type e)
+      go (Some (questions.Index x count)) e = index_on_less x count (asked_at_references world bounds old at (questions.Index x count) e)
+      go (Some (questions.Length x most)) e = length_on x most

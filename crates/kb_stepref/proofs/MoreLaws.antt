@@ -1,38 +1,31 @@
 -- What holds of a state that is reached holds of one of which the stage, the picture, the heap and the terms are others that hold
 -- together.
-use Rattle.std.proofs.Common.{◌≡◌, ℕ, zero, suc, ◌<◌, ◌≤◌, List, [], ◌∷◌, ◌++◌, length, Option, Some, None, slice_get, sym, subst, arith}
+use Rattle.std.proofs.Common.{◌≡◌, List}
+use Rattle.std.specs.Prelude.{IfSome}
 use Rattle.kb_blast.specs.Query.{kinds_of}
 use Rattle.kb_classes.specs.World.{World}
 use Rattle.kb_terms.specs.declared.node.Node.{Node}
 use Rattle.kb_terms.specs.Terms.{Extends}
-use Rattle.kb_terms.proofs.Values.{IsTerm-extends}
-use Rattle.kb_picture.specs.declared.picture.PicObject.{PicObject}
 use Rattle.kb_picture.specs.declared.picture.Picture.{Picture}
 use Rattle.kb_picture.specs.Finding.{IsFoundFirst}
 use Rattle.kb_picture.specs.Queries.{kinds_seen}
 use Rattle.kb_picture.specs.WellTyped.{IsWellTyped}
-use Rattle.kb_frames.specs.declared.frame.SymFrame.{SymFrame}
 use Rattle.kb_frames.specs.declared.state.Stage.{Stage}
-use Rattle.kb_frames.specs.declared.state.Stage.TheVariants.{Runs}
 use Rattle.kb_frames.specs.declared.state.SymObject.{SymObject}
 use Rattle.kb_frames.specs.declared.value.Cell.{Cell}
-use Rattle.kb_frames.specs.declared.value.Cell.TheVariants.{Untouched, Read, Written}
-use Rattle.kb_frames.specs.declared.value.SymValue.{SymValue}
-use Rattle.kb_frames.specs.declared.value.SymValue.TheVariants.{Int, Null, Obj, Literal, New, Loc}
-use Rattle.kb_frames.specs.Heaps.{with_cell}
+use Rattle.kb_frames.specs.Arrays.{IsPlaceNext}
 use Rattle.kb_frames.specs.State.{State}
-use Rattle.kb_frames.specs.States.{AreCells, Each, HasCells, IsCell, IsFrame, IsLocal, IsMade, IsStage, IsSymValue}
+use Rattle.kb_frames.specs.States.{AreCells, Each, IsMade, IsStage}
 use Rattle.kb_ways.specs.Reached.{HasReadReceiver}
 use Rattle.kb_ways.proofs.SoundLaws.{Sound, conditions_still}
-use Rattle.kb_frames.proofs.CellLaws.{with_row}
 
 module _ (world : World) (state : State) (stage : Stage) (picture : Picture) (cells : List (List Cell)) (made : List SymObject) (nodes : List Node) where
   abbrev pub changed : State
   changed = record state { stage = stage; picture = picture; cells = cells; made = made; nodes = nodes }
 
   pub changed_sound : Sound world state → Extends state.nodes nodes → IsWellTyped world state.method picture → IsFoundFirst picture → kinds_of nodes ≡ kinds_seen world state.method picture → IsStage world changed stage
-      → AreCells world changed → Each (IsMade world changed) made → HasReadReceiver world state.method stage picture → Sound world changed
-  changed_sound sound terms typed found kinds is_stage are_cells are_made receiver = record {
+      → AreCells world changed → Each (IsMade world changed) made → HasReadReceiver world state.method stage picture → IfSome state.chosen (IsPlaceNext world changed) → Sound world changed
+  changed_sound sound terms typed found kinds is_stage are_cells are_made receiver placed = record {
     typed = typed;
     found = found;
     kinds = kinds;
@@ -43,4 +36,5 @@ module _ (world : World) (state : State) (stage : Stage) (picture : Picture) (ce
     receiver = receiver;
     parameters = sound.parameters;
     keys = sound.keys;
+    chosen = placed;
   }

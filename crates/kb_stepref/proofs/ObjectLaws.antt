@@ -1,5 +1,5 @@
 -- What an object to which a symbolic reference leads has in a field: what a state keeps of its slots is what the heap has there.
-use Rattle.std.proofs.Common.{◌≡◌, ℕ, zero, suc, ◌+◌, ◌<◌, Bool, true, false, List, [], ◌∷◌, length, map, slice_get, Option, Some, None, is_some, refl, sym, ap, subst, ◌∙◌, if◌then◌else◌, arith}
+use Rattle.std.proofs.Common.{◌≡◌, ℕ, zero, suc, ◌+◌, ◌<◌, Bool, true, false, List, [], ◌∷◌, length, slice_get, Option, Some, None, is_some, refl, sym, ap, subst, ◌∙◌, if◌then◌else◌, arith}
 use Rattle.std.specs.Option.{option_map, option_map_or, option_and_then}
 use Rattle.std.proofs.lemmas.Option.{slice_get-map, slice_get_within}
 use Rattle.kb_heap.specs.declared.heap.Heap.{Heap}
@@ -30,10 +30,9 @@ use Rattle.kb_frames.specs.State.{State, cell_at}
 use Rattle.kb_frames.specs.States.{AreCells, HasCells, IsSymValue}
 use Rattle.kb_ways.proofs.OutcomeValues.{there}
 use Rattle.kb_stepref.specs.Fields.{cell_of, has_place, has_slot_of, held, made_value_of}
-use Rattle.kb_ways.specs.Identity.{same}
 use Rattle.kb_stepref.specs.Questions.{asks_cell, asks_field}
 use Rattle.kb_frames.proofs.CellLaws.{found_cell}
-pub use Rattle.kb_stepcall.proofs.ObjectLaws.{IsPlaced, get_dropped, literal_there, made_at_end, made_there, no_loc, object_placed, place_is, same_is}
+pub use Rattle.kb_ways.proofs.ObjectLaws.{IsPlaced, get_dropped, literal_there, made_at_end, made_there, no_loc, object_placed, place_is, same_is}
 
 -- lists of one length have an item at the same places
 some_same : {A B : Type 0} (xs : List A) (ys : List B) (i : ℕ) → length xs ≡ length ys → is_some (slice_get xs i) ≡ is_some (slice_get ys i)

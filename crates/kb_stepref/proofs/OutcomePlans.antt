@@ -1,46 +1,57 @@
 -- What an instruction on references does to a state is what it does to the configuration, with each symbolic value in the place
 -- of its value: one lemma for each kind of effect that writes nothing into the heap.
-use Rattle.std.proofs.Common.{◌≡◌, ℕ, Bool, true, false, List, [], ◌∷◌, map, drop, nat_lt, slice_get, Option, Some, None, cond, refl, sym, ap, ◌∙◌, subst}
+use Rattle.std.proofs.Common.{◌≡◌, ℕ, ◌+◌, Bool, true, false, List, [], ◌∷◌, length, map, drop, nat_lt, slice_get, Option, Some, None, cond, refl, sym, ap, ◌∙◌, subst, if◌then◌else◌}
 use Rattle.std.specs.Option.{option_map, option_map_or, option_and_then}
 use Rattle.kb_class.specs.declared.ids.MethodId.{MethodId}
+use Rattle.kb_class.specs.Platform.{throwable}
 use Rattle.kb_heap.specs.declared.bounds.Bounds.{Bounds}
 use Rattle.kb_heap.specs.declared.heap.Input.{Input}
 use Rattle.kb_heap.specs.declared.heap.Object.{Object}
 use Rattle.kb_heap.specs.declared.heap.Value.{Value}
 use Rattle.kb_heap.specs.declared.heap.Value.TheVariants.{Null as NullValue, Ref}
-use Rattle.kb_heap.specs.Heap.{object_at}
+use Rattle.kb_heap.specs.Heap.{literal, object_at}
+use Rattle.kb_classes.specs.Subtypes.{fits}
 use Rattle.kb_classes.specs.World.{World}
+use Rattle.kb_link.specs.Links.{IsLinked}
+use Rattle.kb_names.specs.declared.types.ExactType.{ExactType}
 use Rattle.kb_classes.specs.declared.slots.FieldSlot.{FieldSlot}
 use Rattle.kb_names.specs.declared.types.JType.{JType}
+use Rattle.kb_names.specs.declared.types.JType.TheVariants as types
+use Rattle.kb_picture.specs.declared.picture.PicObject.{PicObject}
 use Rattle.kb_resolution.specs.Lookup.{resolved_field, only_where}
 use Rattle.kb_semantics.specs.Config.{Setting, Config, Outcome, class_number, local_of, max_locals_of, result_of}
 use Rattle.kb_semantics.specs.Inputs.{IsTypeCorrect}
 use Rattle.kb_semantics.specs.Instructions.{field_of, is_wanted, on_object, same_reference, sets_local, with, is_null as is_null_reference}
 use Rattle.kb_semantics.specs.Operands.{Reference, Taken, a_reference, reference_of, value_of_reference, two_references as two_of}
 use Rattle.kb_semantics.specs.Values.{kept}
-use Rattle.kb_semantics.specs.Ways.{branches, goes, goes_on, hands_over, ill_typed, returns_value}
+use Rattle.kb_semantics.specs.Ways.{branches, goes, goes_on, hands_over, ill_typed, returns_value, throws_object}
 use Rattle.kb_picture.specs.Endings.{Reading}
 use Rattle.kb_frames.specs.declared.frame.SymFrame.{SymFrame}
 use Rattle.kb_frames.specs.declared.state.Stage.TheVariants.{Runs}
 use Rattle.kb_frames.specs.declared.value.SymValue.{SymValue}
 use Rattle.kb_frames.specs.declared.value.SymValue.TheVariants.{Int, Null, Obj, Literal, New, Loc}
 use Rattle.kb_frames.specs.Cuts.{setting_of}
-use Rattle.kb_frames.specs.StandsFor.{FrameStandsFor, StandsFor, reading_at, value_of_sym, values_of_sym}
+use Rattle.kb_frames.specs.StandsFor.{FrameStandsFor, StandsFor, made_at, reading_at, value_of_sym, values_of_sym}
+use Rattle.kb_frames.specs.Heaps.{exact_type_of}
+use Rattle.kb_frames.specs.declared.state.SymObject.{SymObject}
 use Rattle.kb_frames.specs.State.{State}
 use Rattle.kb_frames.specs.States.{IsSymValue}
-use Rattle.kb_ways.specs.Ways.{with_stack}
+use Rattle.kb_ways.specs.Ways.{with_stack, ObjectThere, OfPicture, OfRun, ThrowsThere, Fails}
 use Rattle.kb_frames.proofs.ItemLaws.{two_parts}
-use Rattle.kb_ways.proofs.LocalLaws.{led_to, local_set, local_value}
+use Rattle.kb_ways.proofs.LocalLaws.{led_to, local_set, local_value, object_place}
+use Rattle.kb_ways.proofs.OutcomeValues.{there}
 use Rattle.kb_ways.proofs.SoundLaws.{Sound}
 use Rattle.kb_ways.specs.Kept.{kept as sym_kept, is_of_kind}
 use Rattle.kb_ways.specs.Plans.{returns_value as returns_value_sym, Planned, plain, planned, leaves_with}
-use Rattle.kb_stepref.specs.Effects.{branch_where, branches_null, branches_same, gets, got, in_local, loads, pushes_null, returns_reference, stores}
+use Rattle.kb_stepref.specs.Effects.{branch_where, branches_null, branches_same, gets, got, in_local, loads, pushes_null, returns_reference, stores, throws_object as throws_object_sym, throws_reference, throws_top}
 use Rattle.kb_stepref.specs.Fields.{field_named, held}
 use Rattle.kb_ways.specs.Identity.{same}
 use Rattle.kb_stepref.specs.Comparing.{is_null}
 use Rattle.kb_ways.specs.Operands.{a_reference as one_reference, reference, two_references}
 use Rattle.kb_stepref.specs.Questions.{asks_field}
 use Rattle.kb_stepref.proofs.ObjectLaws.{field_held, same_is}
+use Rattle.kb_stepref.proofs.StringLaws.{no_throwable}
+use Rattle.kb_ways.proofs.ObjectLaws.{literal_there, made_there, no_loc, object_placed, place_is}
 use Rattle.kb_stepref.proofs.ReferenceLaws.{IsReference, null_is, one_reference_is, pair_below, reference_back, reference_kind, reference_value, referred, result_kept, top_reference, two_references_are, kept_whole}
 use Rattle.kb_ways.proofs.KeptLaws.{reference_is}
 
@@ -269,3 +280,53 @@ module _ (world : World) (bounds : Bounds) (base : State) (frame : SymFrame) (ca
           → IsPlan (with s c it reads_field) (planned state it (λ (field : FieldSlot). planned state (one_reference frame.stack) (got world state field)))
       go None told = (refl, refl)
       go (Some field) told = field_is field told
+
+  -- ---- athrow
+
+  abbrev thrown_where : ℕ → ExactType → Outcome
+  thrown_where o kind = if fits world kind (types.Class throwable) then throws_object s c o kind else ill_typed s c
+
+  abbrev thrown_by : ℕ → Object → Outcome
+  thrown_by o object = thrown_where o object.kind
+
+  there_thrown : (object : ObjectThere) (kind : ExactType) → IsPlan (thrown_where (object_place r object) kind) (throws_object_sym world state object kind)
+  there_thrown object kind = go (fits world kind (types.Class throwable)) where
+    go : (b : Bool) → IsPlan (if b then throws_object s c (object_place r object) kind else ill_typed s c) (if b then plain state (ThrowsThere object kind) else plain state Fails)
+    go true = (refl, refl)
+    go false = (refl, refl)
+
+  -- an object has the exact type that the state knows of it
+  object_thrown : (object : ObjectThere) (of : Object) (kind : Option ExactType) → object_at c.heap (object_place r object) ≡ Some of → kind ≡ Some of.kind
+      → IsPlan (with s c (object_at c.heap (object_place r object)) (thrown_by (object_place r object))) (planned state kind (throws_object_sym world state object))
+  object_thrown object of kind at is =
+      subst (λ (k : Option ExactType). IsPlan (with s c (object_at c.heap (object_place r object)) (thrown_by (object_place r object))) (planned state k (throws_object_sym world state object))) (sym is)
+      (so (with s c (object_at c.heap (object_place r object)) (thrown_by (object_place r object))) (thrown_by (object_place r object) of) (throws_object_sym world state object of.kind)
+      (ap (λ (it : Option Object). with s c it (thrown_by (object_place r object))) at) (there_thrown object of.kind))
+
+  module _ (linked : IsLinked world) where
+    value_thrown : (value : SymValue) → IsReference value → IsSymValue world state value → IsPlan (on_object s c (referred r value) thrown_by) (throws_reference world state value)
+    unfolding reading_at
+    value_thrown (Int t) reference is = absurd reference
+    value_thrown Null reference is = (refl, refl)
+    value_thrown (Obj n) reference is =
+        let object = there state.picture.objects n is in
+        let p = object_placed world state sound.cells known input correct stands.instance_of.shape c.heap stands.heap n object.0 object.1 in
+        object_thrown (OfPicture n) p.object (exact_type_of state (Obj n))
+        (ap (object_at c.heap) (place_is world state sound.cells known input correct stands.instance_of.shape c.heap stands.heap n object.0 p) ∙ p.found)
+        (ap (option_map (λ (o : PicObject). o.kind)) object.1 ∙ ap (λ (k : ExactType). Some k) (sym p.kind))
+    value_thrown (Literal n) reference is = (
+      refl,
+      ap (λ (it : Option Object). with s c it (thrown_by (length input.heap.objects + n))) (literal_there world state sound.cells known input correct stands.instance_of.shape c.heap stands.heap n is)
+          ∙ ap (λ (b : Bool). if b then throws_object s c (length input.heap.objects + n) literal.kind else ill_typed s c) (no_throwable world linked),
+    )
+    value_thrown (New n) reference is =
+        let made = there state.made n is in
+        object_thrown (OfRun n) (made_at r made.0) (exact_type_of state (New n))
+        (made_there world state sound.cells known input correct stands.instance_of.shape c.heap stands.heap n ∙ ap (option_map (made_at r)) made.1)
+        (ap (option_map (λ (o : SymObject). o.kind)) made.1)
+    value_thrown (Loc n) reference is = absurd (no_loc world state sound.cells known input correct stands.instance_of.shape c.heap stands.heap n is)
+
+    pub throws_top_is : IsPlan (with s c (a_reference c.frame.stack) (λ t. on_object s c t.it (λ o object. if fits world object.kind (types.Class throwable) then throws_object s c o object.kind else ill_typed s c))) (throws_top world state)
+    throws_top_is =
+        with_one (λ (t : Taken Reference). on_object s c t.it thrown_by) (throws_reference world state)
+        (λ value e. (let is = value_there 0 value e in value_thrown value is.0 is.1))

@@ -1,41 +1,19 @@
 -- A putfield writes a slot and leaves the frame as it is, so that it goes on with the stack from before without its operands.
-use Rattle.std.proofs.Common.{◌≡◌, ℕ, Bool, true, Option, Some, length, drop, refl, sym, ap, ◌∙◌, if◌then◌else◌}
+use Rattle.std.proofs.Common.{◌≡◌, ℕ, Bool, true, Option, Some, length, drop, sym, ap, ◌∙◌, if◌then◌else◌}
 use Rattle.kb_heap.specs.declared.bounds.Bounds.{Bounds}
 use Rattle.kb_classes.specs.World.{World}
 use Rattle.kb_classes.specs.declared.slots.FieldSlot.{FieldSlot}
 use Rattle.kb_semantics.specs.Config.{has_room}
 use Rattle.kb_frames.specs.declared.state.Stage.{Stage}
 use Rattle.kb_frames.specs.declared.value.SymValue.{SymValue}
-use Rattle.kb_frames.specs.declared.value.SymValue.TheVariants.{Int, Null, Obj, Literal, New, Loc}
 use Rattle.kb_frames.specs.Lent.{locals_of, stack_of}
 use Rattle.kb_frames.specs.Next.{method_now}
 use Rattle.kb_frames.specs.State.{State}
 use Rattle.kb_ways.specs.Ways.{Goes, went, with_stack, Fails}
 use Rattle.kb_stepref.specs.Effects.{put_kept, put_where, puts_kept}
-use Rattle.kb_stepref.specs.Fields.{put_in}
 use Rattle.kb_ways.specs.Plans.{followed, planned, plain}
 use Rattle.kb_ways.proofs.KeptLaws.{kept_is_in, kept_more}
 use Rattle.kb_ways.specs.Kept.{kept}
-use Rattle.kb_ways.specs.declared.turn.Turn.{Turn}
-use Rattle.kb_ways.specs.Needs.{IsFor}
-use Rattle.kb_ways.proofs.TurnLaws.{is_for_same}
-
-pub put_stage : (object : SymValue) (slot : ℕ) (value : SymValue) (state : State) → (put_in object slot value state).stage ≡ state.stage
-put_stage (Int term) slot value state = refl
-put_stage Null slot value state = refl
-put_stage (Obj number) slot value state = refl
-put_stage (Literal number) slot value state = refl
-put_stage (New number) slot value state = refl
-put_stage (Loc number) slot value state = refl
-
--- and the turn of the instruction stays its turn
-pub put_is_for : (turn : Turn) (object : SymValue) (slot : ℕ) (value : SymValue) (state : State) → IsFor turn state → IsFor turn (put_in object slot value state)
-put_is_for turn (Obj number) slot value state h = is_for_same turn state (put_in (Obj number) slot value state) refl refl refl h
-put_is_for turn (New number) slot value state h = is_for_same turn state (put_in (New number) slot value state) refl refl refl h
-put_is_for turn (Int term) slot value state h = h
-put_is_for turn Null slot value state h = h
-put_is_for turn (Literal number) slot value state h = h
-put_is_for turn (Loc number) slot value state h = h
 
 -- the way on from the state in which what is kept was put is that of the plan
 pub put_led : (world : World) (bounds : Bounds) (next : ℕ) (state : State) (field : FieldSlot) (object value : SymValue) (it : State × SymValue) → kept field.kind value state ≡ Some it

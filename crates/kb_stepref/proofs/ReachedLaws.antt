@@ -1,5 +1,5 @@
 -- Each take of a state that is reached leaves one that is reached, and a picture of which an input can be made.
-use Rattle.std.proofs.Common.{◌≡◌, ℕ, Bool, true, false, [], Option, Some, None, refl, sym, ap, subst, ◌∙◌, if◌then◌else◌, length}
+use Rattle.std.proofs.Common.{◌≡◌, Bool, true, false, Option, Some, None, refl, sym, subst, ◌∙◌, if◌then◌else◌}
 use Rattle.std.specs.Option.{option_map_or}
 use Rattle.kb_class.proofs.Lists.{all_has}
 use Rattle.kb_class.specs.Naming.{Has}
@@ -14,13 +14,10 @@ use Rattle.kb_picture.specs.declared.choice.Init.{Init}
 use Rattle.kb_picture.specs.declared.choice.Init.TheVariants.{Lazy}
 use Rattle.kb_picture.specs.declared.picture.Origin.{Origin}
 use Rattle.kb_picture.specs.declared.picture.Origin.TheVariants.{Arg, Field, Element}
-use Rattle.kb_picture.specs.declared.picture.Picture.{Picture}
-use Rattle.kb_picture.specs.Growth.{after_int_read}
 use Rattle.kb_picture.specs.Queries.{kind_for}
-use Rattle.kb_picture.specs.WellFormed.{variables_seen}
 use Rattle.kb_picture.specs.WellTyped.{IsReceiverSeen, is_reference_type}
 use Rattle.kb_lazy.specs.Choices.{read_choices_of}
-use Rattle.kb_lazy.specs.Laws.{HasNoBeyond, AreInRange}
+use Rattle.kb_lazy.specs.Laws.{AreInRange}
 use Rattle.kb_frames.specs.declared.value.Outcome.{Outcome}
 use Rattle.kb_frames.specs.declared.value.Outcome.TheVariants.{Asks, Goes, Ends, Cut}
 use Rattle.kb_frames.specs.declared.value.SymValue.{SymValue}
@@ -35,15 +32,20 @@ use Rattle.kb_ways.specs.Advancing.{only}
 use Rattle.kb_stepref.specs.Laws.{IsAtReferences, OfTakes}
 use Rattle.kb_ways.specs.declared.question.Question.{Question}
 use Rattle.kb_ways.specs.declared.question.Question.TheVariants.{Reads}
-use Rattle.kb_stepref.specs.Questions.{question_of}
-use Rattle.kb_ways.specs.Questions.{answered, answers, cut_where, goes_behind, passed_by}
+use Rattle.kb_ways.specs.declared.question.Question.TheVariants as questions
+use Rattle.kb_stepref.specs.Questions.{asked_by, question_of}
+use Rattle.kb_ways.specs.Questions.{answered, answers, behind_read, cut_where, passed_by}
 use Rattle.kb_stepref.specs.Takes.{taken}
 use Rattle.kb_ways.specs.Plans.{takes_next}
-use Rattle.kb_stepref.proofs.LazyLaws.{IsKnown as IsKnownChoice, known_choices, known_locs, known_no_beyond, seen_no_beyond}
-use Rattle.kb_stepref.proofs.SoundLaws.{SoundTo, answered_init, goes_behind_sound, none_asked, takes_next_sound, taken_sound, told_sound}
+use Rattle.kb_stepref.proofs.AnsweredLaws.{offered_fits, tells_reference}
+use Rattle.kb_stepref.proofs.LazyLaws.{IsKnown as IsKnownChoice, known_choices, known_locs, known_counted, known_no_beyond}
+use Rattle.kb_stepref.proofs.FirstReadLaws.{asked, asked_at_references}
+use Rattle.kb_stepref.proofs.KnownTakes.{index_take_known, known_on, length_take_known, taken_sound}
+use Rattle.kb_stepref.proofs.SoundLaws.{answered_init, goes_behind_sound, none_asked, takes_next_sound, told_sound}
+pub use Rattle.kb_stepref.proofs.ChosenStates.{IsKnown, known_at}
+pub use Rattle.kb_stepref.proofs.KnownTakes.{IsPlain, int_plain}
 use Rattle.kb_picture.specs.declared.choice.Choice.TheVariants.{Only}
 use Rattle.kb_stepref.specs.Effects.{plan_of}
-use Rattle.kb_picture.specs.declared.picture.Seen.TheVariants as seens
 
 -- ---- what is reached
 
@@ -59,45 +61,12 @@ has_input world bounds state choice range at has =
       receiver = subst (λ m. IsReceiverSeen world m (taken world bounds state choice).state.picture) (sym to.method) to.receiver;
     }
 
--- ---- with objects alone
-
--- beside its pool: every object was chosen when its reference was read, none is left open, and none is beyond
-pub record IsKnown (world : World) (state : State) : Type 0 where
-  pub sound : Sound world state
-  pub lazy : state.init ≡ Lazy
-  pub known : state.picture.locs ≡ []
-  pub within : HasNoBeyond state.picture
-
-known_at : (world : World) (state : State) → IsAtReferences world state → IsKnown world state
-known_at world state at = record { sound = sound_reached world state at.reached; lazy = at.lazy; known = at.known; within = at.within }
-
-known_on : (world : World) (old new : State) → IsKnown world old → SoundTo world old new → IsKnown world new
-known_on world old new h to = record {
-  sound = to.sound;
-  lazy = to.init ∙ h.lazy;
-  known = ap (λ (p : Picture). p.locs) to.picture ∙ h.known;
-  within = subst HasNoBeyond (sym to.picture) h.within;
-}
-
 -- ---- an answer
 
 pub found_picture : (slot : Origin) (value : SymValue) (state : State) → (found_in slot value state).picture ≡ state.picture
 found_picture (Arg number) value state = refl
 found_picture (Field object place) value state = refl
 found_picture (Element array index) value state = refl
-
--- objects alone, none of which is beyond
-abbrev pub IsPlain : Picture → Type 0
-IsPlain picture = (picture.locs ≡ []) × HasNoBeyond picture
-
-int_no_beyond : (v : ℕ) → seens.Int v ≡ seens.Beyond → ⊥
-int_no_beyond v e = cc
-
-pub int_plain : (picture : Picture) (slot : Origin) → IsPlain picture → IsPlain (after_int_read picture slot)
-unfolding after_int_read
-int_plain picture slot plain =
-    let v : ℕ = length (variables_seen picture) in
-    (plain.0, seen_no_beyond picture (after_int_read picture slot) slot (seens.Int v) refl refl (int_no_beyond v) plain.1)
 
 module _ (world : World) (bounds : Bounds) (state : State) (at : IsAtReferences world state) (slot : Origin) (type : JType) (asks : question_of world state bounds ≡ Some (Reads slot type))
     (choice : Choice) (range : AreInRange bounds) (has : Has (alternatives world state bounds (Reads slot type)) choice) where
@@ -119,9 +88,15 @@ module _ (world : World) (bounds : Bounds) (state : State) (at : IsAtReferences 
   now_plain passed = go (is_reference_type type) refl where
     go : (b : Bool) → is_reference_type type ≡ b → IsPlain (if b then first_reference world slot choice state else first_int slot (kind_for (Some type)) state).picture
     go true is =
-        subst IsPlain (sym (found_picture slot _ _))
-        (known_locs state.picture slot choice (known_here is) ∙ at.known, known_no_beyond state.picture slot choice (known_here is) passed at.within)
-    go false is = subst IsPlain (sym (found_picture slot _ _)) (int_plain state.picture slot (at.known, at.within))
+        let sound : Sound world state = sound_reached world state at.reached in
+        let is_asked = asked world bounds state at slot type asks in
+        let tells = tells_reference world bounds state sound slot type is_asked choice (offered_fits world bounds state sound slot type is_asked choice range is has) in
+        subst IsPlain (sym (found_picture slot _ _)) (
+          known_locs state.picture slot choice (known_here is) ∙ at.known,
+          known_no_beyond state.picture slot choice (known_here is) passed at.within,
+          known_counted state.picture slot choice passed tells.typed.lengths at.bounded,
+        )
+    go false is = subst IsPlain (sym (found_picture slot _ _)) (int_plain state.picture slot (at.known, at.within, at.bounded))
 
   pub now_known : passed_by choice ≡ None → IsKnown world now
   now_known passed =
@@ -131,6 +106,7 @@ module _ (world : World) (bounds : Bounds) (state : State) (at : IsAtReferences 
         lazy = answered_init world choice state slot type ∙ at.lazy;
         known = plain.0;
         within = plain.1;
+        bounded = plain.2;
       }
 
 -- ---- where it goes on
@@ -159,17 +135,23 @@ goes_on_known world bounds state choice range at has = go (question_of world sta
   -- a state that is cut by its answer goes on nowhere
   behind : (slot : Origin) (type : JType) → question_of world state bounds ≡ Some (Reads slot type) → Has (alternatives world state bounds (Reads slot type)) choice
       → (bound : Option Bound) → passed_by choice ≡ bound
-      → StaysKnown world (cut_where bound (answered world choice state (Reads slot type)) (goes_behind plan_of world bounds slot (answered world choice state (Reads slot type))))
+      → StaysKnown world (cut_where bound (answered world choice state (Reads slot type)) (behind_read plan_of world bounds slot (answered world choice state (Reads slot type))))
   behind slot type asks offered None passed =
-      stays (goes_behind plan_of world bounds slot (answered world choice state (Reads slot type)))
-      (known_on world (answered world choice state (Reads slot type)) (goes_behind plan_of world bounds slot (answered world choice state (Reads slot type))).state
+      stays (behind_read plan_of world bounds slot (answered world choice state (Reads slot type)))
+      (known_on world (answered world choice state (Reads slot type)) (behind_read plan_of world bounds slot (answered world choice state (Reads slot type))).state
       (now_known world bounds state at slot type asks choice range offered passed) (goes_behind_sound world bounds state at slot type asks choice range offered))
   behind slot type asks offered (Some bound) passed = tt
 
   go : (question : Option Question) → question_of world state bounds ≡ question → Has (option_map_or (alternatives world state bounds) question only) choice
-      → StaysKnown world (option_map_or (answers plan_of world bounds choice state) question (takes_next plan_of world bounds Only state))
+      → StaysKnown world (option_map_or (answers (asked_by bounds) plan_of world bounds choice state) question (takes_next plan_of world bounds Only state))
   go None asks offered =
       stays (takes_next plan_of world bounds Only state)
       (known_on world state (takes_next plan_of world bounds Only state).state (known_at world state at)
       (takes_next_sound world bounds state (sound_reached world state at.reached) (none_asked world bounds state asks)))
   go (Some (Reads slot type)) asks offered = behind slot type asks offered (passed_by choice) refl
+  go (Some (questions.Index x count)) asks offered =
+      stays (answers (asked_by bounds) plan_of world bounds choice state (questions.Index x count))
+      (index_take_known world bounds state at x count (asked_at_references world bounds state at (questions.Index x count) asks) choice offered).known
+  go (Some (questions.Length x most)) asks offered =
+      stays (answers (asked_by bounds) plan_of world bounds choice state (questions.Length x most))
+      (length_take_known world bounds state at range x most (asked_at_references world bounds state at (questions.Length x most) asks) choice offered).known

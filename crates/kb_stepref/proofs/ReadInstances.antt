@@ -1,6 +1,6 @@
 -- What the variables of a picture are at an input once a slot more is seen, and so which inputs are instances of a state that
 -- was told what the slot holds.
-use Rattle.std.proofs.Common.{◌≡◌, ℕ, suc, ℤ, false, List, [], ◌∷◌, ◌++◌, length, take, drop, filter_map, Option, Some, None, slice_get, refl, sym, ap, subst, ◌∙◌}
+use Rattle.std.proofs.Common.{◌≡◌, ℕ, suc, ℤ, false, List, [], ◌∷◌, ◌++◌, length, take, drop, filter_map, Option, Some, None, slice_get, refl, sym, ap, subst, ◌∙◌, ◌⊎◌, inl, inr, arith}
 use Rattle.std.specs.List.{cons_option}
 use Rattle.std.proofs.lemmas.List.{append-nil, take-append-drop}
 use Rattle.std.proofs.lemmas.List.Elements.{filter_map-append}
@@ -12,7 +12,8 @@ use Rattle.kb_heap.specs.declared.heap.Value.TheVariants.{Int as IntValue}
 use Rattle.kb_classes.specs.World.{World}
 use Rattle.kb_names.specs.declared.types.JType.{JType}
 use Rattle.kb_semantics.specs.Inputs.{IsTypeCorrect}
-use Rattle.kb_terms.specs.Terms.{Extends}
+use Rattle.kb_terms.specs.declared.node.TermId.{TermId}
+use Rattle.kb_terms.specs.Terms.{Extends, value_of, variables_of}
 use Rattle.kb_picture.specs.declared.choice.Choice.{Choice}
 use Rattle.kb_picture.specs.declared.choice.Choice.TheVariants as choices
 use Rattle.kb_picture.specs.declared.picture.Origin.{Origin}
@@ -35,7 +36,9 @@ use Rattle.kb_frames.specs.StandsFor.{IsInstanceOf}
 use Rattle.kb_frames.specs.State.{State}
 use Rattle.kb_frames.specs.States.{IsState}
 use Rattle.kb_ways.proofs.OneAsked.{conditions_there, met_later}
-use Rattle.kb_ways.proofs.OneInstances.{enough_values, int_argument, met_inputs}
+use Rattle.kb_ways.proofs.OneInstances.{enough_values, hold_last, int_argument, met_behind, same_variables, value_inputs, variables_many}
+use Rattle.kb_ways.proofs.SoundLaws.{Sound}
+use Rattle.kb_ways.proofs.ValueLaws.{VariablesBelow, enough_below}
 
 -- ---- variables
 
@@ -93,10 +96,52 @@ module _ (world : World) (params : ℕ) (picture : Picture) (slot : Origin) (inp
       sym (take-append-drop (length picture.objects) after.places.objects) ∙ ap (λ (ps : List ℕ). ps ++ more) kept in
       choice_values after.places.objects choice ∙ (ap (variable_values picture input) whole ∙ earlier_values before.places.objects more (as_many picture input before.places before.placed))
 
+-- ---- an int more
+
+-- where a slot more is seen as an int it holds one, and the variables are those from before, and that int
+pub record SeesInt (picture grown : Picture) (slot : Origin) (input : Input) (before : HasShape picture input) (after : HasShape grown input) : Type 0 where
+  pub int : ℤ
+  pub held : slot_value input before.places.objects slot ≡ Some (IntValue int)
+  pub values : variable_values grown input after.places.objects ≡ variable_values picture input before.places.objects ++ int ∷ []
+
+module _ (picture : Picture) (slot : Origin) (input : Input) (before : HasShape picture input) where
+  seen_int : (after : HasShape (after_int_read picture slot) input) → (z : ℤ) × (slot_value input after.places.objects slot ≡ Some (IntValue z))
+  unfolding after_int_read
+  seen_int after = hold_last input after.places.objects picture.seen (slot, seens.Int (length (variables_seen picture))) after.seen
+
+  grown_int : (after : HasShape (after_int_read picture slot) input) → SeesInt picture (after_int_read picture slot) slot input before after
+  grown_int after =
+      let same : after.places ≡ before.places = int_places picture slot input before after in
+      let int = seen_int after in
+      let held : slot_value input before.places.objects slot ≡ Some (IntValue int.0) = ap (λ (l : PlaceLists). slot_value input l.objects slot) (sym same) ∙ int.1 in
+      record {
+        int = int.0;
+        held = held;
+        values = ap (λ (l : PlaceLists). variable_values (after_int_read picture slot) input l.objects) same ∙ int_values picture input before.places.objects slot int.0 held;
+      }
+
+  pub sees_int : (grown : Picture) → grown ≡ after_int_read picture slot → (after : HasShape grown input) → SeesInt picture grown slot input before after
+  sees_int grown same = subst (λ (p : Picture). (after : HasShape p input) → SeesInt picture p slot input before after) (sym same) grown_int
+
+-- a term of a state has the value that it had, where at most an int more is seen
+module _ (world : World) (old : State) (sound : IsState world old) (input : Input) (shape : HasShape old.picture input) where
+  abbrev earlier : List ℤ
+  earlier = variable_values old.picture input shape.places.objects
+
+  pub more_value : (t : TermId) (z : ℤ) → value_of old.nodes t (earlier ++ z ∷ []) ≡ value_of old.nodes t earlier
+  more_value t z = value_inputs old.nodes t earlier (z ∷ []) sound.pool (enough_values world old input shape.places.objects sound)
+
+  pub later_value : (new : Picture) (after : HasShape new input) → (new ≡ old.picture) ⊎ ((slot : Origin) × (new ≡ after_int_read old.picture slot)) → (t : TermId)
+      → value_of old.nodes t (variable_values new input after.places.objects) ≡ value_of old.nodes t earlier
+  later_value new after how t = elim how [
+    | inl same ↦ ap (value_of old.nodes t) (sym (same_variables old.picture input shape new same after))
+    | inr read ↦ (let int = sees_int old.picture read.0 input shape new read.1 after in ap (value_of old.nodes t) int.values ∙ more_value t int.int)
+  ]
+
 -- ---- instances
 
 -- the new state has the conditions of the old one, and has all its terms
-module _ (world : World) (old : State) (sound : IsState world old) (params : ℕ) (slot : Origin) (unread : IsUnread world params old.picture slot) (input : Input) (i : IsInstanceOf old input)
+module _ (world : World) (old : State) (sound : Sound world old) (below : VariablesBelow (variables_of old.nodes) old.nodes) (params : ℕ) (slot : Origin) (unread : IsUnread world params old.picture slot) (input : Input) (i : IsInstanceOf old input)
     (new : State) (more : Extends old.nodes new.nodes) (alike : new.when ≡ old.when) where
   abbrev variables : List ℤ
   variables = variable_values old.picture input i.shape.places.objects
@@ -128,8 +173,11 @@ module _ (world : World) (old : State) (sound : IsState world old) (params : ℕ
       let shape : HasShape (after_int_read old.picture slot) input = int_forth z at in
       let here : HasShape new.picture input = subst (λ (p : Picture). HasShape p input) (sym same) shape in
       instance_by (variables ++ z ∷ [])
-      (met_inputs old.nodes variables (z ∷ []) old.when sound.pool (enough_values world old input i.shape.places.objects sound) i.conditions) here (values new.picture same here)
+      (met_behind old.nodes variables (z ∷ []) old.when enough i.conditions) here (values new.picture same here)
     where
+      enough : VariablesBelow (length variables) old.nodes
+      enough = (let many = variables_many world old input i.shape.places.objects sound.kinds in enough_below (variables_of old.nodes) (length variables) old.nodes (omega (arith, many)) below)
+
       values : (p : Picture) → p ≡ after_int_read old.picture slot → (here : HasShape p input) → variable_values p input here.places.objects ≡ variables ++ z ∷ []
       values p same =
           subst (λ (q : Picture). (here : HasShape q input) → variable_values q input here.places.objects ≡ variables ++ z ∷ []) (sym same)

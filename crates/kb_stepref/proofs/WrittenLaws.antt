@@ -17,18 +17,20 @@ use Rattle.kb_frames.specs.declared.value.Cell.{Cell}
 use Rattle.kb_frames.specs.declared.value.Cell.TheVariants.{Untouched, Read, Written}
 use Rattle.kb_frames.specs.declared.value.SymValue.{SymValue}
 use Rattle.kb_frames.specs.declared.value.SymValue.TheVariants.{Int, Null, Obj, Literal, New, Loc}
+use Rattle.kb_frames.specs.Arrays.{array_next}
 use Rattle.kb_frames.specs.Heaps.{find_cell, made_value, object_with, value_of_cell, with_cell, with_made_value, wrote, wrote_made}
 use Rattle.kb_frames.specs.State.{State}
-use Rattle.kb_frames.specs.States.{Each, IsCell, IsMade, IsStage, IsSymValue, IsTouched}
+use Rattle.kb_frames.specs.States.{Each, IsCell, IsCounted, IsMade, IsStage, IsSymValue, IsTouched}
+use Rattle.kb_frames.proofs.ChosenLaws.{chosen_kept, keeps_same, made_written}
 use Rattle.kb_frames.proofs.ItemLaws.{each_set}
-use Rattle.kb_frames.proofs.MoreLaws.{cells_sound}
+use Rattle.kb_frames.proofs.MoreLaws.{cells_sound, IsMore, made_more, rows_more, rows_with, running_more, value_more}
 use Rattle.kb_ways.proofs.SoundLaws.{Sound, nodes_sound}
 use Rattle.kb_ways.specs.Kept.{kept_in}
 use Rattle.kb_stepref.specs.Effects.{put_kept}
-use Rattle.kb_stepref.specs.Fields.{cell_of, has_slot_of, held, put_in}
+use Rattle.kb_stepref.specs.Fields.{cell_of, has_slot_of, held}
+use Rattle.kb_ways.specs.Slots.{held_in, put_in}
 use Rattle.kb_frames.proofs.CellLaws.{found_cell, with_cell_length, with_touched}
 use Rattle.kb_stepref.proofs.FirstReadLaws.{where_so}
-use Rattle.kb_frames.proofs.MoreLaws.{IsMore, made_more, rows_more, rows_with, running_more, value_more}
 use Rattle.kb_stepref.proofs.MoreLaws.{changed, changed_sound}
 use Rattle.kb_ways.proofs.KeptLaws.{kept_more, kept_there}
 use Rattle.kb_ways.proofs.GrowLaws.{HasMore}
@@ -59,6 +61,16 @@ module _ (world : World) (state : State) (sound : Sound world state) where
   held_there field Null value e = absurd (none-some value e)
   held_there field (Literal number) value e = absurd (none-some value e)
   held_there field (Loc number) value e = absurd (none-some value e)
+
+  -- and so is what an element holds
+  pub held_in_there : (object value : SymValue) (slot : ℕ) → held_in state object slot ≡ Some value → IsSymValue world state value
+  held_in_there (Obj number) value slot e =
+      option_and_then_some value_of_cell (find_cell state.cells number slot) value e (λ cell there at. in_cell cell (cell_there number slot cell there) value at)
+  held_in_there (New number) value slot e = made_there number slot value e
+  held_in_there (Int term) value slot e = absurd (none-some value e)
+  held_in_there Null value slot e = absurd (none-some value e)
+  held_in_there (Literal number) value slot e = absurd (none-some value e)
+  held_in_there (Loc number) value slot e = absurd (none-some value e)
 
 -- ---- what a write leaves
 
@@ -129,6 +141,7 @@ module _ (world : World) (state : State) (sound : Sound world state) (frame : Sy
           seen = λ i of at. written_touched of (sound.cells.seen i of at);
         })
         (made_more world state wrote_state wrote_more state.made sound.made) sound.receiver
+        (chosen_kept state wrote_state (keeps_same state wrote_state refl refl) state.chosen (array_next world state.method state.stage) sound.chosen)
 
     wrote_behind : SoundBehind world state (wrote number slot value state)
     wrote_behind = record { sound = wrote_sound; more = wrote_more; stage = refl; method = refl; init = refl; picture = refl }
@@ -159,6 +172,7 @@ module _ (world : World) (state : State) (sound : Sound world state) (frame : Sy
       changed_object : (it : SymObject) → IsMade world made_state it → IsMade world made_state (object_with it slot value)
       changed_object it was = record {
         count = subst (HasValues world it.kind) (sym (set_size it.values slot value)) was.count;
+        counted = subst (IsCounted it.kind) (sym (set_size it.values slot value)) was.counted;
         values = each_set (IsSymValue world made_state) it.values slot value (value_more world state made_state made_state_more value is) was.values;
       }
 
@@ -176,6 +190,7 @@ module _ (world : World) (state : State) (sound : Sound world state) (frame : Sy
           seen = sound.cells.seen;
         })
         objects_made sound.receiver
+        (chosen_kept state made_state (record { objects = λ i object at. at; made = made_written state.made number slot value }) state.chosen (array_next world state.method state.stage) sound.chosen)
 
     made_behind : SoundBehind world state (wrote_made number slot value state)
     made_behind = record { sound = made_sound; more = made_state_more; stage = refl; method = refl; init = refl; picture = refl }

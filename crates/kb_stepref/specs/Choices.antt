@@ -1,6 +1,6 @@
 -- The alternatives of a step on references, in their order: those of its question, and the only way on where it asks nothing. A
 -- reference that is read for the first time has those of lazy initialisation (Khurshid, Păsăreanu and Visser, TACAS 2003); an
--- int or a boolean is a new variable, and there is one way on.
+-- int or a boolean is a new variable, and there is one way on. An index and a length have those that are not refuted.
 use Rattle.std.specs.Prelude.{List, if◌then◌else◌}
 use Rattle.std.specs.Option.{option_map_or}
 use Rattle.kb_heap.specs.declared.bounds.Bounds.{Bounds}
@@ -13,12 +13,16 @@ use Rattle.kb_frames.specs.State.{State}
 use Rattle.kb_ways.specs.Advancing.{only}
 use Rattle.kb_ways.specs.declared.question.Question.{Question}
 use Rattle.kb_ways.specs.declared.question.Question.TheVariants.{Reads}
+use Rattle.kb_ways.specs.declared.question.Question.TheVariants as questions
+use Rattle.kb_ways.specs.Choosing.{index_choices, index_conditions, length_choices, length_conditions, not_refuted}
 use Rattle.kb_stepref.specs.Questions.{question_of}
 
 -- those of a question
 abbrev pub alternatives : World → State → Bounds → Question → List Choice
 alternatives world state bounds (Reads slot type) =
     if is_reference_type type then read_choices_of state.init world state.picture slot type (is_receiver world state.method slot) bounds.k bounds.array else only
+alternatives world state bounds (questions.Index x count) = not_refuted state (index_conditions x count) (index_choices count)
+alternatives world state bounds (questions.Length x most) = not_refuted state (length_conditions x most) (length_choices most)
 
 -- The alternatives of the next step of a state.
 abbrev pub choices_of : World → State → Bounds → List Choice

@@ -5,25 +5,34 @@ use Rattle.std.specs.Prelude.{ℕ, Bool, List, ◌∷◌, length, drop, nat_lt, 
 use Rattle.kb_code.specs.declared.instruction.Instr.{Instr}
 use Rattle.kb_code.specs.declared.instruction.Instr.TheVariants as instrs
 use Rattle.kb_classes.specs.World.{World}
+use Rattle.kb_class.specs.Platform.{throwable}
+use Rattle.kb_classes.specs.Subtypes.{fits}
 use Rattle.kb_classes.specs.declared.slots.FieldSlot.{FieldSlot}
+use Rattle.kb_names.specs.declared.types.ExactType.{ExactType}
+use Rattle.kb_names.specs.declared.types.JType.TheVariants as types
 use Rattle.kb_semantics.specs.Config.{has_room, max_locals_of}
-use Rattle.kb_semantics.specs.Instructions.{BySelection, Special, Static, is_wanted}
+use Rattle.kb_semantics.specs.Instructions.{BySelection, Special, Static, component_of_entry, is_wanted}
 use Rattle.kb_semantics.specs.Ways.{null_pointer}
 use Rattle.kb_frames.specs.declared.value.SymValue.{SymValue}
-use Rattle.kb_frames.specs.declared.value.SymValue.TheVariants.{Null}
+use Rattle.kb_frames.specs.declared.value.SymValue.TheVariants.{Null, Obj, New}
+use Rattle.kb_frames.specs.Heaps.{exact_type_of}
 use Rattle.kb_frames.specs.Lent.{local_in, locals_of, stack_of}
 use Rattle.kb_frames.specs.Next.{method_now}
 use Rattle.kb_frames.specs.State.{State}
-use Rattle.kb_ways.specs.Ways.{with_stack, Way, Goes, Jumps, Throws, Fails}
-use Rattle.kb_stepref.specs.Fields.{field_named, has_place, held, put_in}
+use Rattle.kb_ways.specs.Ways.{with_stack, ObjectThere, OfPicture, OfRun, Way, Goes, Jumps, Throws, ThrowsThere, Fails}
+use Rattle.kb_stepref.specs.Fields.{field_named, has_place, held}
+use Rattle.kb_ways.specs.Slots.{put_in}
 use Rattle.kb_ways.specs.Identity.{same}
 use Rattle.kb_stepref.specs.Comparing.{is_null}
 use Rattle.kb_ways.specs.Operands.{an_object_and_value, a_reference, reference, two_references}
-use Rattle.kb_ways.specs.Plans.{Planned, plain, planned, returns_value}
+use Rattle.kb_ways.specs.Plans.{Planned, here, plain, planned, returns_value}
 use Rattle.kb_picture.specs.declared.choice.Choice.{Choice}
 use Rattle.kb_ways.specs.Kept.{kept}
 use Rattle.kb_stepcall.specs.Calls.{invokes}
 use Rattle.kb_stepcall.specs.Making.{makes_object}
+use Rattle.kb_steparray.specs.Effects.{loads_element, makes_array, stores_element, tells_length}
+use Rattle.kb_universe.specs.Faults.{component_of_code}
+use Rattle.kb_stepref.specs.Types.{casts, loads_literal, tells_type}
 
 -- whether a local lies below the limit of the method
 abbrev pub is_local : World → State → ℕ → Bool
@@ -67,6 +76,27 @@ branches_null state want target = planned state (a_reference (stack_of state.sta
 -- areturn
 abbrev pub returns_reference : World → State → Planned
 returns_reference world state = planned state (a_reference (stack_of state.stage)) (returns_value world state)
+
+-- ---- athrow
+
+-- an object that is a Throwable is thrown; one that is none is ill-typed
+abbrev pub throws_object : World → State → ObjectThere → ExactType → Planned
+throws_object world state object kind = if fits world kind (types.Class throwable) then plain state (ThrowsThere object kind) else plain state Fails
+
+-- what has an exact type is an object: neither an int nor a literal is thrown
+abbrev pub throws_value : World → State → SymValue → ExactType → Planned
+throws_value world state (Obj number) = throws_object world state (OfPicture number)
+throws_value world state (New number) = throws_object world state (OfRun number)
+throws_value world state _ = λ kind. plain state Fails
+
+-- null throws; a literal is no Throwable
+abbrev pub throws_reference : World → State → SymValue → Planned
+throws_reference world state Null = plain state (Throws null_pointer)
+throws_reference world state value = planned state (exact_type_of state value) (throws_value world state value)
+
+-- athrow: what is no reference is ill-typed before null is looked at
+abbrev pub throws_top : World → State → Planned
+throws_top world state = planned state (a_reference (stack_of state.stage)) (throws_reference world state)
 
 -- ---- getfield
 
@@ -112,8 +142,8 @@ puts world state entry =
 
 -- ---- the instructions
 
--- What an instruction does to a state, to which nothing is left to be told: it chooses nothing. One that is no instruction on
--- references is left out.
+-- What an instruction does to a state, to which nothing is left to be told, by the alternative that was chosen. One that is no
+-- instruction on references is left out.
 abbrev pub plan_of : World → State → Choice → Instr → Planned
 plan_of world state choice instrs.PushNull = pushes_null state
 plan_of world state choice (instrs.LoadRef k) = loads world state k
@@ -121,6 +151,7 @@ plan_of world state choice (instrs.StoreRef k) = stores world state k
 plan_of world state choice (instrs.IfSame want target) = branches_same state want target
 plan_of world state choice (instrs.IfNull want target) = branches_null state want target
 plan_of world state choice instrs.ReturnRef = returns_reference world state
+plan_of world state choice instrs.Throw = throws_top world state
 plan_of world state choice (instrs.GetField entry) = gets world state entry
 plan_of world state choice (instrs.PutField entry) = puts world state entry
 plan_of world state choice (instrs.Virtual entry) = invokes BySelection world state entry
@@ -128,4 +159,12 @@ plan_of world state choice (instrs.Special entry) = invokes Special world state 
 plan_of world state choice (instrs.Static entry) = invokes Static world state entry
 plan_of world state choice (instrs.Interface entry) = invokes BySelection world state entry
 plan_of world state choice (instrs.New entry) = makes_object world state entry
+plan_of world state choice (instrs.LoadElem elem) = loads_element state elem
+plan_of world state choice (instrs.StoreElem elem) = stores_element world state elem
+plan_of world state choice instrs.Length = tells_length state
+plan_of world state choice (instrs.NewPrim code) = makes_array world state choice (component_of_code code)
+plan_of world state choice (instrs.NewRefs entry) = makes_array world state choice (component_of_entry world (here world state) entry)
+plan_of world state choice (instrs.Cast entry) = casts world state entry
+plan_of world state choice (instrs.InstanceOf entry) = tells_type world state entry
+plan_of world state choice (instrs.Ldc entry) = loads_literal world state entry
 plan_of world state choice _ = plain state Fails

@@ -10,7 +10,7 @@ use Rattle.kb_resolution.specs.Lookup.{resolved_field}
 use Rattle.kb_frames.specs.declared.value.Cell.{Cell}
 use Rattle.kb_frames.specs.declared.value.SymValue.{SymValue}
 use Rattle.kb_frames.specs.declared.value.SymValue.TheVariants.{Int, Null, Obj, Literal, New, Loc}
-use Rattle.kb_frames.specs.Heaps.{exact_type_of, find_cell, made_value, value_of_cell, wrote, wrote_made}
+use Rattle.kb_frames.specs.Heaps.{exact_type_of, find_cell, made_value, value_of_cell}
 use Rattle.kb_frames.specs.Next.{method_now}
 use Rattle.kb_frames.specs.State.{State}
 
@@ -50,12 +50,3 @@ has_place world state field (Int term) = false
 has_place world state field Null = false
 has_place world state field (Literal number) = false
 has_place world state field (Loc number) = false
-
--- the state with a value in a slot of the object
-abbrev pub put_in : SymValue → ℕ → SymValue → State → State
-put_in (Obj number) slot value state = wrote number slot value state
-put_in (New number) slot value state = wrote_made number slot value state
-put_in (Int term) slot value state = state
-put_in Null slot value state = state
-put_in (Literal number) slot value state = state
-put_in (Loc number) slot value state = state

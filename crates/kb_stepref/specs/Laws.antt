@@ -10,22 +10,23 @@ use Rattle.kb_picture.specs.declared.choice.Init.TheVariants.{Lazy}
 use Rattle.kb_frames.specs.State.{State}
 use Rattle.kb_frames.specs.Next.{next_is_int}
 use Rattle.kb_ways.specs.Built.{IsBuiltNext}
-use Rattle.kb_ways.specs.Reached.{HaveNoHandlers, IsReached}
+use Rattle.kb_ways.specs.Reached.{IsReached}
 use Rattle.kb_ways.specs.Ways.{Take}
+pub use Rattle.kb_steparray.specs.Arrays.{AreCounted}
 use Rattle.kb_stepref.specs.Choices.{choices_of}
 use Rattle.kb_stepref.specs.Takes.{taken}
 
--- The next step of the state is one on references that is built: it is none of ints. For now no method of its frames has
--- handlers.
+-- The next step of the state is one on references that is built: it is none of ints.
 pub record IsAtReferences (world : World) (state : State) : Type 0 where
   pub reached : IsReached world state
-  pub unhandled : HaveNoHandlers world state.method state.stage
   pub linked : IsLinked world
   -- every object is chosen when its reference is read, and none is left open
   pub lazy : state.init ≡ Lazy
   pub known : state.picture.locs ≡ []
   -- a state that met an object deeper than k is cut
   pub within : HasNoBeyond state.picture
+  -- and so is one that met an array above the bound: an int counts the elements of each
+  pub bounded : AreCounted state.picture
   pub built : IsBuiltNext world state
   pub next : next_is_int world state ≡ false
 

@@ -3,6 +3,7 @@ pub mod Fields
 pub mod Questions
 pub mod Looks
 pub mod Choices
+pub mod Types
 pub mod Effects
 pub mod Takes
 pub mod Laws

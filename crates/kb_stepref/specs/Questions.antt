@@ -1,7 +1,7 @@
 -- What a step on references must be told before it can be carried out: what a slot holds that is read for the first time, an
--- argument or a field (lazy initialisation: Khurshid, Păsăreanu and Visser, TACAS 2003). That a run begins by reading its
--- arguments is an own rule.
-use Rattle.std.specs.Prelude.{ℕ, Bool, false, nat_le, Option, Some, None, option_and_then, slice_get, if◌then◌else◌}
+-- argument, a field or an element (lazy initialisation: Khurshid, Păsăreanu and Visser, TACAS 2003), and of an array its index or
+-- its length. That a run begins by reading its arguments is an own rule.
+use Rattle.std.specs.Prelude.{ℕ, Bool, true, false, nat_le, Option, Some, None, option_and_then, slice_get, if◌then◌else◌}
 use Rattle.std.specs.Option.{option_map_or}
 use Rattle.kb_code.specs.declared.instruction.Instr.{Instr}
 use Rattle.kb_code.specs.declared.instruction.Instr.TheVariants as instrs
@@ -12,22 +12,21 @@ use Rattle.kb_names.specs.declared.types.JType.{JType}
 use Rattle.kb_picture.specs.declared.picture.Origin.TheVariants.{Arg, Field}
 use Rattle.kb_picture.specs.WellTyped.{is_reference_type}
 use Rattle.kb_frames.specs.declared.value.Cell.{Cell}
-use Rattle.kb_frames.specs.declared.value.Cell.TheVariants.{Untouched, Read, Written}
 use Rattle.kb_frames.specs.declared.value.SymValue.{SymValue}
 use Rattle.kb_frames.specs.declared.value.SymValue.TheVariants.{Int, Null, Obj, Literal, New, Loc}
 use Rattle.kb_frames.specs.Lent.{read_count, stack_of}
 use Rattle.kb_frames.specs.Next.{argument_next, instruction_next}
 use Rattle.kb_frames.specs.State.{State}
+use Rattle.kb_ways.specs.Slots.{first_ask}
 use Rattle.kb_ways.specs.declared.question.Question.{Question}
 use Rattle.kb_ways.specs.declared.question.Question.TheVariants.{Reads}
+use Rattle.kb_ways.specs.declared.question.Question.TheVariants as questions
+use Rattle.kb_steparray.specs.Questions.{asks}
 use Rattle.kb_stepref.specs.Fields.{cell_of, field_named}
 
 -- a field of an object of the picture is read for the first time, where nobody has read or written it
 abbrev pub asks_cell : ℕ → FieldSlot → Option Cell → Option Question
-asks_cell number field (Some Untouched) = Some (Reads (Field number field.slot) field.kind)
-asks_cell number field (Some (Read value)) = None
-asks_cell number field (Some (Written value)) = None
-asks_cell number field None = None
+asks_cell number field cell = first_ask (Field number field.slot) field.kind cell
 
 abbrev pub asks_field : World → State → FieldSlot → Option SymValue → Option Question
 asks_field world state field (Some (Obj number)) = asks_cell number field (cell_of world state field number)
@@ -38,15 +37,20 @@ asks_field world state field (Some (New number)) = None
 asks_field world state field (Some (Loc number)) = None
 asks_field world state field None = None
 
--- what an instruction asks in a state
-abbrev pub asked_by : World → State → Instr → Option Question
-asked_by world state (instrs.GetField entry) = option_and_then (λ field. asks_field world state field (slice_get (stack_of state.stage) 0)) (field_named world state entry)
-asked_by world state _ = None
+-- what a getfield asks in a state
+abbrev pub asks_read : World → State → Instr → Option Question
+asks_read world state (instrs.GetField entry) = option_and_then (λ field. asks_field world state field (slice_get (stack_of state.stage) 0)) (field_named world state entry)
+asks_read world state _ = None
+
+-- what an instruction asks: those on arrays have their own questions
+abbrev pub asked_by : Bounds → World → State → Instr → Option Question
+asked_by bounds world state (instrs.GetField entry) = asks_read world state (instrs.GetField entry)
+asked_by bounds world state instr = asks bounds world state instr
 
 -- where as many instructions were carried out as may be, none is taken up
 abbrev pub asked_at : World → State → Bounds → Option Question
 asked_at world state bounds =
-    if nat_le bounds.run.steps state.carried then None else option_and_then (asked_by world state) (instruction_next world state.method state.stage)
+    if nat_le bounds.run.steps state.carried then None else option_and_then (asked_by bounds world state) (instruction_next world state.method state.stage)
 
 -- an argument is asked for before anything else
 abbrev pub argument_or : World → State → Option Question → Option Question
@@ -57,7 +61,10 @@ argument_or world state asks =
 abbrev pub question_of : World → State → Bounds → Option Question
 question_of world state bounds = argument_or world state (asked_at world state bounds)
 
--- something is chosen where a reference is read for the first time: an int or a boolean is a new variable
+-- something is chosen where a reference is read for the first time, of an index and of a length: an int or a boolean that is read
+-- for the first time is a new variable
 abbrev pub is_choice : Option Question → Bool
 is_choice None = false
 is_choice (Some (Reads slot type)) = is_reference_type type
+is_choice (Some (questions.Index x count)) = true
+is_choice (Some (questions.Length x most)) = true

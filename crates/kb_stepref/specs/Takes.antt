@@ -10,8 +10,8 @@ use Rattle.kb_ways.specs.Plans.{takes_next}
 use Rattle.kb_ways.specs.Questions.{answers}
 use Rattle.kb_ways.specs.Ways.{Take}
 use Rattle.kb_stepref.specs.Effects.{plan_of}
-use Rattle.kb_stepref.specs.Questions.{question_of}
+use Rattle.kb_stepref.specs.Questions.{asked_by, question_of}
 
 -- What taking an alternative makes of a state.
 abbrev pub taken : World → Bounds → State → Choice → Take
-taken world bounds state choice = option_map_or (answers plan_of world bounds choice state) (question_of world state bounds) (takes_next plan_of world bounds Only state)
+taken world bounds state choice = option_map_or (answers (asked_by bounds) plan_of world bounds choice state) (question_of world state bounds) (takes_next plan_of world bounds Only state)

@@ -1,5 +1,5 @@
 //! What a state becomes by the only way on.
-ghost use Rattle.std.specs.Prelude.{◌≡◌, IfOk, OnOk};
+ghost use Rattle.std.specs.Prelude.{IfOk, OnOk};
 ghost use Rattle.kb_lazy.specs.Laws.{AreInRange};
 ghost use Rattle.kb_picture.specs.declared.choice.Choice.TheVariants.{Only};
 ghost use Rattle.kb_stepref.specs.Choices.{choices_of};

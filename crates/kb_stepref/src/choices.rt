@@ -1,10 +1,13 @@
 //! The alternatives of the next step on references.
-ghost use Rattle.std.specs.Prelude.{◌≡◌, IfOk};
+ghost use Rattle.std.specs.Prelude.{◌≡◌, IfOk, IfSome};
 ghost use Rattle.std.specs.Option.{option_map_or};
 ghost use Rattle.kb_picture.specs.Growing.{is_receiver};
 ghost use Rattle.kb_stepref.specs.Choices.{alternatives, choices_of};
 ghost use Rattle.kb_stepref.specs.Laws.{IsAtReferences};
+ghost use Rattle.kb_stepref.specs.Looks.{HasIntOf};
+ghost use Rattle.kb_terms.specs.Terms.{IsTerm};
 ghost use Rattle.kb_ways.specs.Advancing.{only};
+ghost use Rattle.kb_ways.specs.Choosing.{length_choices, length_conditions, not_refuted};
 ghost use Rattle.kb_ways.specs.declared.question.Question.TheVariants.{Reads};
 
 use crate::NoMemory;
@@ -16,11 +19,15 @@ use kb_lazy::read_choices;
 use kb_names::JType;
 use kb_picture::{Choice, Origin};
 use kb_semantics::World;
+use kb_steparray::{index_alternatives, length_alternatives};
+use kb_terms::TermId;
 use kb_ways::{Question, only_way_on};
 use std::alloc::Global;
 
 /// The alternatives of the next step of a state, in their order. Of a reference that is read for the first time they are null,
-/// but not for a receiver, the objects that the picture has, and new ones; of every other step the only way on.
+/// but not for a receiver, the objects that the picture has, and new ones; of an index the places of its array, and outside; of
+/// the length of a new array negative, each one up to the bound, and above it; of every other step the only way on. One with a
+/// condition that is decided as false is left out.
 ///
 /// The state is one to which `start` and later calls lead in this world under lazy initialisation, and whose next step is one on
 /// references that is built. It takes time in proportion to the objects of the picture, the universe and the list that it gives.
@@ -47,6 +54,7 @@ pub(crate) fn offered(
     bounds: &Bounds,
     question: &Option<Question>,
 ) -> Result<Vec<Choice>, NoMemory>
+    requires { IfSome question.now (HasIntOf state.now.nodes) }
     ensures { IfOk result (λ choices. choices.items ≡ option_map_or (alternatives world.now state.now bounds.now) question.now only) }
 {
     match question {
@@ -63,10 +71,24 @@ fn alternatives(
     bounds: &Bounds,
     question: &Question,
 ) -> Result<Vec<Choice>, NoMemory>
+    requires { HasIntOf state.now.nodes question.now }
     ensures { IfOk result (λ choices. choices.items ≡ alternatives world.now state.now bounds.now question.now) }
 {
     match question {
         Question::Reads(slot, kind) => read_alternatives(alloc, world, state, bounds, *slot, kind),
+        Question::Index(x, count) => index_alternatives(alloc, state, *x, *count),
+        Question::Length(x, most) => lengths(alloc, state, *x, *most),
+    }
+}
+
+// The alternatives of a length. A bound that is no int has no list of them, as where memory has run out.
+fn lengths(alloc: Global, state: &SymState, x: TermId, most: u32) -> Result<Vec<Choice>, NoMemory>
+    requires { IsTerm state.now.nodes x }
+    ensures { IfOk result (λ choices. choices.items ≡ not_refuted state.now (length_conditions x most) (length_choices most)) }
+{
+    match i32::try_from(most) {
+        Ok(_) => length_alternatives(alloc, state, x, most),
+        Err(_) => Err(NoMemory),
     }
 }
 

@@ -5,21 +5,23 @@ ghost use Rattle.kb_ways.specs.Needs.{HasTerms, IsFor, IsTermOf};
 ghost use Rattle.kb_ways.specs.Turns.{led, led_by, told};
 ghost use Rattle.kb_frames.specs.Lent.{stack_of};
 ghost use Rattle.kb_ways.specs.Ways.{Fails, with_stack};
-ghost use Rattle.kb_frames.specs.Heaps.{value_of_cell};
 ghost use Rattle.kb_picture.specs.declared.choice.Choice.TheVariants.{Only};
 ghost use Rattle.kb_stepref.specs.Effects.{got, gets, plan_of, put, put_where, puts, reads};
 ghost use Rattle.kb_stepref.specs.Looks.{IsReadBy, asks_at};
-ghost use Rattle.kb_stepref.specs.Questions.{asked_by};
+ghost use Rattle.kb_stepref.specs.Questions.{asks_read};
 ghost use Rattle.kb_ways.specs.Plans.{plain};
-ghost use Rattle.kb_stepref.specs.Fields.{cell_of, field_named, has_place, has_slot_of, held, made_value_of, put_in};
+ghost use Rattle.kb_ways.specs.Slots.{put_in};
+ghost use Rattle.kb_stepref.specs.Fields.{cell_of, field_named, has_place, has_slot_of, held, made_value_of};
 
 use crate::NoMemory;
+use crate::throwing::throw_null_pointer;
 use kb_code::Instr;
 use kb_frames::{Cell, Outcome, SymState, SymValue};
 use kb_lookups::{declaring_class, has_field};
 use kb_semantics::{FieldSlot, World};
 use kb_ways::{
-    Turn, a_reference, an_object_and_value, has_room, ill_typed, keep, replaces, throws,
+    Turn, a_reference, an_object_and_value, has_room, ill_typed, keep, put_in, replaces,
+    value_of_cell,
 };
 
 /// A field of an object of the picture, where that has it.
@@ -28,8 +30,6 @@ pub(crate) struct FieldAt<'w> {
     pub object: u32,
     pub field: &'w FieldSlot,
 }
-
-const NULL_POINTER: &[u8] = b"java/lang/NullPointerException";
 
 // ---- fields
 
@@ -52,7 +52,7 @@ pub(crate) fn field_read<'w>(
     instr: &Instr,
 ) -> Option<FieldAt<'w>>
     ensures read { IfSome result (IsReadBy world.now state.now instr.now) }
-    ensures asks { asked_by world.now state.now instr.now ≡ option_and_then (asks_at state.now) result }
+    ensures asks { asks_read world.now state.now instr.now ≡ option_and_then (asks_at state.now) result }
 {
     let Instr::GetField(entry) = instr else {
         return None;
@@ -132,7 +132,7 @@ fn get(
     ensures { IfOk result (λ outcome. told state.new outcome ≡ led_by turn.now (got turn.now.world.now state.old field.now object)) }
 {
     if let SymValue::Null = object {
-        return throws(turn, state, NULL_POINTER);
+        return throw_null_pointer(turn, state);
     }
     let value = held(turn.world, state, field, object);
     push_read(turn, state, value)
@@ -164,16 +164,6 @@ fn push_read(
     match value {
         Some(value) => replaces(turn, state, 1, &[value]),
         None => ill_typed(turn, state),
-    }
-}
-
-// The value of a slot that was read or written.
-fn value_of_cell(cell: Option<Cell>) -> Option<SymValue>
-    ensures { result ≡ option_and_then value_of_cell cell }
-{
-    match cell? {
-        Cell::Read(value) | Cell::Written(value) => Some(value),
-        Cell::Untouched => None,
     }
 }
 
@@ -223,7 +213,7 @@ fn put(
     ensures { IfOk result (λ outcome. told state.new outcome ≡ led_by turn.now (put turn.now.world.now state.old field.now object value)) }
 {
     if let SymValue::Null = object {
-        return throws(turn, state, NULL_POINTER);
+        return throw_null_pointer(turn, state);
     }
     put_on(turn, state, field, object, value)
 }
@@ -278,16 +268,5 @@ fn has_place(world: &World, state: &SymState, field: &FieldSlot, object: SymValu
         SymValue::Obj(number) => cell_of(world, state, field, number).is_some(),
         SymValue::New(number) => made_value_of(world, state, field, number).is_some(),
         SymValue::Int(_) | SymValue::Null | SymValue::Literal(_) | SymValue::Loc(_) => false,
-    }
-}
-
-// Writes a slot of an object of the picture, or of one that the run has made.
-fn put_in(state: &mut SymState, object: SymValue, slot: u32, value: SymValue)
-    ensures { state.new ≡ put_in object slot value state.old }
-{
-    match object {
-        SymValue::Obj(number) => state.write(number, slot, value),
-        SymValue::New(number) => state.write_made(number, slot, value),
-        SymValue::Int(_) | SymValue::Null | SymValue::Literal(_) | SymValue::Loc(_) => {}
     }
 }

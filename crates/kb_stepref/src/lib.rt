@@ -1,5 +1,6 @@
 //! Symbolic steps on references: the alternatives of the next step of a state, and what a state becomes when one is taken,
-//! under lazy initialisation. Calls and new objects are carried out by kb_stepcall.
+//! under lazy initialisation. Calls and new objects are carried out by kb_stepcall, what arrays, casts and literals need by
+//! kb_steparray.
 //!
 //! `specs/Questions.antt` has what a step must be told, `specs/Choices.antt` the alternatives, `specs/Takes.antt` what a take
 //! makes of a state.
@@ -16,6 +17,8 @@ mod look;
 mod questions;
 mod returns;
 mod take;
+mod throwing;
+mod types;
 
 pub use advance::advance_ref;
 pub use choices::choices_ref;

@@ -1,6 +1,7 @@
 //! What the next step of a state takes up, found by one look.
 ghost use Rattle.std.specs.Prelude.{◌≡◌, option_and_then, IfOk, IfSome};
-ghost use Rattle.kb_stepref.specs.Looks.{IsLookAt, IsReadAt, asks_at, asks_at_turn};
+ghost use Rattle.kb_steparray.specs.Arrays.{HasCounts};
+ghost use Rattle.kb_stepref.specs.Looks.{IsLookAt, IsReadAt, asks_at, reads_at_turn};
 
 use crate::NoMemory;
 use crate::fields::{FieldAt, field_read};
@@ -29,11 +30,12 @@ pub(crate) fn look_at<'w>(
     state: &SymState,
     bounds: &Bounds,
 ) -> Result<Look<'w>, NoMemory>
+    requires { HasCounts state.now }
     ensures { IfOk result (IsLookAt world.now bounds.now state.now) }
 {
     let turn = taken_up(alloc, world, bounds, state);
     let field = field_taken(world, state, &turn);
-    let question = question_of(alloc, world, state, &field)?;
+    let question = question_of(alloc, world, bounds, state, &turn, &field)?;
     Ok(Look {
         turn,
         field,
@@ -48,7 +50,7 @@ fn field_taken<'w>(
     turn: &Option<Turn<'w>>,
 ) -> Option<FieldAt<'w>>
     ensures read { IfSome result (IsReadAt world.now state.now turn.now) }
-    ensures asks { option_and_then (asks_at_turn world.now state.now) turn.now ≡ option_and_then (asks_at state.now) result }
+    ensures asks { option_and_then (reads_at_turn world.now state.now) turn.now ≡ option_and_then (asks_at state.now) result }
 {
     match turn {
         Some(turn) => field_read(world, state, turn.instr),

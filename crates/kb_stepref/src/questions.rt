@@ -1,65 +1,71 @@
 //! What a step must be told before it can be carried out.
-ghost use Rattle.std.specs.Prelude.{◌≡◌, option_and_then, IfOk};
-ghost use Rattle.kb_stepref.specs.Looks.{asks_at};
-ghost use Rattle.kb_stepref.specs.Questions.{argument_or, asks_cell, is_choice};
+ghost use Rattle.std.specs.Prelude.{◌≡◌, option_and_then, IfOk, IfSome};
+ghost use Rattle.kb_steparray.specs.Arrays.{HasCounts};
+ghost use Rattle.kb_stepref.specs.Looks.{IsReadAt, asks_at, asks_at_turn, reads_at_turn};
+ghost use Rattle.kb_stepref.specs.Questions.{argument_or, is_choice};
 
 use crate::NoMemory;
 use crate::fields::FieldAt;
-use kb_frames::{Cell, SymState, is_reference};
+use kb_frames::{SymState, is_reference};
+use kb_heap::Bounds;
 use kb_picture::Origin;
-use kb_semantics::{FieldSlot, World};
-use kb_ways::Question;
+use kb_semantics::World;
+use kb_ways::{Question, Turn, first_ask};
 use std::alloc::Global;
 
-/// The question of a state: its next argument, or what is asked of the field that its next instruction reads.
+/// The question of a state: its next argument, or what its next instruction must be told.
 pub(crate) fn question_of(
     alloc: Global,
     world: &World,
+    bounds: &Bounds,
     state: &SymState,
+    turn: &Option<Turn<'_>>,
     field: &Option<FieldAt<'_>>,
 ) -> Result<Option<Question>, NoMemory>
-    ensures { IfOk result (λ asked. asked ≡ argument_or world.now state.now (option_and_then (asks_at state.now) field.now)) }
+    requires counts { HasCounts state.now }
+    requires read { IfSome field.now (IsReadAt world.now state.now turn.now) }
+    requires asks { option_and_then (reads_at_turn world.now state.now) turn.now ≡ option_and_then (asks_at state.now) field.now }
+    ensures { IfOk result (λ asked. asked ≡ argument_or world.now state.now (option_and_then (asks_at_turn bounds.now world.now state.now) turn.now)) }
 {
     if let Some(kind) = state.next_type(alloc, world)? {
         let slot = Origin::Arg(state.read_count()?);
         return Ok(Some(Question::Reads(slot, kind)));
     }
-    asked_of(alloc, state, field)
+    asked_of(alloc, world, bounds, state, turn, field)
+}
+
+// What is asked of a field that is read, or by another instruction.
+fn asked_of(
+    alloc: Global,
+    world: &World,
+    bounds: &Bounds,
+    state: &SymState,
+    turn: &Option<Turn<'_>>,
+    field: &Option<FieldAt<'_>>,
+) -> Result<Option<Question>, NoMemory>
+    requires counts { HasCounts state.now }
+    requires read { IfSome field.now (IsReadAt world.now state.now turn.now) }
+    requires asks { option_and_then (reads_at_turn world.now state.now) turn.now ≡ option_and_then (asks_at state.now) field.now }
+    ensures { IfOk result (λ asked. asked ≡ option_and_then (asks_at_turn bounds.now world.now state.now) turn.now) }
+{
+    match (field, turn) {
+        (Some(at), _) => asks_field(alloc, state, at),
+        (None, Some(turn)) => kb_steparray::question(alloc, world, bounds, state, turn.instr),
+        (None, None) => Ok(None),
+    }
 }
 
 // What is asked of a field that is read.
-fn asked_of(
+fn asks_field(
     alloc: Global,
     state: &SymState,
-    field: &Option<FieldAt<'_>>,
+    at: &FieldAt<'_>,
 ) -> Result<Option<Question>, NoMemory>
-    ensures { IfOk result (λ asked. asked ≡ option_and_then (asks_at state.now) field.now) }
+    ensures { IfOk result (λ asked. asked ≡ asks_at state.now at.now) }
 {
-    match field {
-        Some(at) => {
-            let cell = state.cell(at.object, at.field.slot);
-            asks_cell(alloc, at.object, at.field, cell)
-        }
-        None => Ok(None),
-    }
-}
-
-// A field that nobody has read or written is read for the first time.
-fn asks_cell(
-    alloc: Global,
-    number: u32,
-    field: &FieldSlot,
-    cell: Option<Cell>,
-) -> Result<Option<Question>, NoMemory>
-    ensures { IfOk result (λ asked. asked ≡ asks_cell number field.now cell) }
-{
-    match cell {
-        Some(Cell::Untouched) => {
-            let kind = field.kind.copied(alloc)?;
-            Ok(Some(Question::Reads(Origin::Field(number, field.slot), kind)))
-        }
-        Some(Cell::Read(_)) | Some(Cell::Written(_)) | None => Ok(None),
-    }
+    let slot = Origin::Field(at.object, at.field.slot);
+    let cell = state.cell(at.object, at.field.slot);
+    first_ask(alloc, slot, &at.field.kind, cell)
 }
 
 /// Whether something is chosen: an int that is read for the first time is a new variable.
@@ -68,6 +74,7 @@ pub(crate) fn is_choice(question: &Option<Question>) -> bool
 {
     match question {
         Some(Question::Reads(_, kind)) => is_reference(kind),
+        Some(Question::Index(..)) | Some(Question::Length(..)) => true,
         None => false,
     }
 }

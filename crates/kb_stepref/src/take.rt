@@ -7,8 +7,9 @@ ghost use Rattle.kb_ways.specs.Turns.{led_by, told};
 ghost use Rattle.kb_stepref.specs.Choices.{alternatives, choices_of};
 ghost use Rattle.kb_lazy.specs.Laws.{AreInRange};
 ghost use Rattle.kb_stepref.specs.Laws.{IsAtReferences};
-ghost use Rattle.kb_stepref.specs.Looks.{IsLookAt, IsReady, behind};
-ghost use Rattle.kb_stepref.specs.Questions.{question_of};
+ghost use Rattle.kb_stepref.specs.Looks.{IsLookAt, IsReady, behind, behind_choice, behind_chosen};
+ghost use Rattle.kb_steparray.specs.Questions.{asks};
+ghost use Rattle.kb_stepref.specs.Questions.{asked_by, question_of};
 ghost use Rattle.kb_stepref.specs.Takes.{taken};
 ghost use Rattle.kb_ways.specs.Questions.{answers};
 ghost use Rattle.kb_ways.specs.Plans.{takes_next};
@@ -19,22 +20,23 @@ use crate::NoMemory;
 use crate::fields::FieldAt;
 use crate::instructions::carry_out;
 use crate::look::{Look, look_at};
-use kb_frames::{Outcome, SymState};
+use kb_frames::{Outcome, SymState, is_reference, variable_kind};
 use kb_heap::Bounds;
 use kb_picture::Choice;
 use kb_semantics::World;
 use kb_ways::{Question, Turn, answer, passed_by, takes_none};
 use std::alloc::Global;
 
-/// Takes an alternative that [`crate::choices_ref`] lists for the state. What was chosen for a slot that is read for the first
-/// time is put into the state: then the input goes beyond a bound, and the state is cut; or an argument was read, and the state
-/// asks for its next choice; or the instruction that reads the slot is carried out. Where nothing is asked the instruction is
-/// carried out.
+/// Takes an alternative that [`crate::choices_ref`] lists for the state. What was chosen is put into the state: what a slot holds
+/// that is read for the first time, or what an index or a length asks for. Then the run goes beyond a bound, and the state is
+/// cut; or an argument was read, or a place chosen whose element is a reference that nobody touched, and the state asks for its
+/// next choice; or the instruction is carried out. Where nothing is asked the instruction is carried out.
 ///
 /// After memory ran out the state is only dropped or undone. It takes time in proportion to the cells of a new object, to the
 /// locals of the method where its first instruction is taken up, and to the classes above that of the object whose field is
 /// read or written, or that receives a call, and of a call to its operands and the locals of the new frame, however many
-/// instructions and objects the state has met; a throw and `new` fill the slots of the new object.
+/// instructions and objects the state has met; a throw, `new` and a new array fill the slots of the new object, and a throw takes
+/// time in proportion to the frames that it leaves and the entries of their handler tables.
 pub fn take_ref(
     alloc: Global,
     world: &World,
@@ -90,42 +92,94 @@ fn answer_or_go_on(
     ensures { IfOk result (λ outcome. told state.new outcome ≡ taken world.now bounds.now state.old choice.now) }
 {
     match &look.question {
-        Some(question) => take_answer(world, state, choice, bounds, look, question),
+        Some(question) => take_answer(alloc, world, state, choice, bounds, look, question),
         None => take_next(alloc, world, state, bounds, look),
     }
 }
 
 // Puts an answer into the state, which is cut by it or goes on.
 fn take_answer(
+    alloc: Global,
     world: &World,
     state: &mut SymState,
     choice: &Choice,
-    _bounds: &Bounds,
+    bounds: &Bounds,
     look: &Look<'_>,
     question: &Question,
 ) -> Result<Outcome, NoMemory>
     requires at { IsAtReferences world.now state.old }
-    requires look { IsLookAt world.now _bounds.now state.old look.now }
-    requires asks { question_of world.now state.old _bounds.now ≡ Some question.now }
-    requires listed { Has (alternatives world.now state.old _bounds.now question.now) choice.now }
-    requires range { AreInRange _bounds.now }
-    ensures { IfOk result (λ outcome. told state.new outcome ≡ answers plan_of world.now _bounds.now choice.now state.old question.now) }
+    requires look { IsLookAt world.now bounds.now state.old look.now }
+    requires asks { question_of world.now state.old bounds.now ≡ Some question.now }
+    requires listed { Has (alternatives world.now state.old bounds.now question.now) choice.now }
+    requires range { AreInRange bounds.now }
+    ensures { IfOk result (λ outcome. told state.new outcome ≡ answers (asked_by bounds.now) plan_of world.now bounds.now choice.now state.old question.now) }
 {
     answer(world, state, choice, question)?;
-    match passed_by(choice) {
-        Some(bound) => Ok(Outcome::Cut(bound)),
-        None => go_behind(state, look),
+    if let Some(bound) = passed_by(choice) {
+        return Ok(Outcome::Cut(bound));
+    }
+    match question {
+        Question::Reads(..) => go_behind(state, look),
+        Question::Index(..) | Question::Length(..) => go_behind_choice(
+            alloc, state, choice, bounds, look,
+        ),
     }
 }
 
-// What comes behind an answer: the instruction that reads the slot, or the next choice where an argument was read.
+// What comes behind a slot that was read: the instruction that reads it, or the next choice where it was an argument.
 fn go_behind(state: &mut SymState, look: &Look<'_>) -> Result<Outcome, NoMemory>
     requires { IfSome look.now.turn (λ turn. IsReady turn look.now.field state.old) }
     ensures { IfOk result (λ outcome. told state.new outcome ≡ behind look.now.turn state.old) }
 {
     match &look.turn {
-        Some(turn) => carry_out(turn, state, &look.field),
+        Some(turn) => carry_out(turn, state, &Choice::Only, &look.field),
         None => Ok(Outcome::Asks),
+    }
+}
+
+// What comes behind an index or a length: of a place what the instruction must still be told, else the instruction.
+fn go_behind_choice(
+    alloc: Global,
+    state: &mut SymState,
+    choice: &Choice,
+    bounds: &Bounds,
+    look: &Look<'_>,
+) -> Result<Outcome, NoMemory>
+    requires { IfSome look.now.turn (λ turn. IsReady turn look.now.field state.old) }
+    ensures { IfOk result (λ outcome. IfSome look.now.turn (λ turn. told state.new outcome ≡ behind_choice (asks bounds.now) turn choice.now state.old)) }
+{
+    let Some(turn) = &look.turn else {
+        return Ok(Outcome::Asks);
+    };
+    match choice {
+        Choice::Index(_) => {
+            let asked = kb_steparray::question(alloc, turn.world, bounds, state, turn.instr)?;
+            go_behind_place(turn, state, choice, &asked)
+        }
+        _ => carry_out(turn, state, choice, &None),
+    }
+}
+
+// What comes behind a place: an int element is read, and the instruction is carried out; a reference is chosen next.
+fn go_behind_place(
+    turn: &Turn<'_>,
+    state: &mut SymState,
+    choice: &Choice,
+    asked: &Option<Question>,
+) -> Result<Outcome, NoMemory>
+    requires { IsReady turn.now None state.old }
+    ensures { IfOk result (λ outcome. told state.new outcome ≡ behind_chosen turn.now choice.now state.old asked.now) }
+{
+    match asked {
+        Some(Question::Reads(slot, kind)) => {
+            if is_reference(kind) {
+                return Ok(Outcome::Asks);
+            }
+            state.first_int(*slot, variable_kind(kind))?;
+            carry_out(turn, state, choice, &None)
+        }
+        Some(Question::Index(..)) | Some(Question::Length(..)) => Ok(Outcome::Asks),
+        None => carry_out(turn, state, choice, &None),
     }
 }
 
@@ -158,5 +212,5 @@ fn take_up(
     ensures { IfOk result (λ outcome. told state.new outcome ≡ led_by turn.now (plan_of turn.now.world.now (begun turn.now.world.now state.old) Only turn.now.instr.now)) }
 {
     state.begin(turn.world)?;
-    carry_out(turn, state, field)
+    carry_out(turn, state, &Choice::Only, field)
 }

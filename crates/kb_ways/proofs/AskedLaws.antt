@@ -11,7 +11,7 @@ use Rattle.kb_terms.specs.Terms.{IsTerm, Extends, constant_at, constant_of, fold
 use Rattle.kb_terms.proofs.Entries.{slice_get-append-end, slice_get-take, end-cases}
 use Rattle.std.proofs.lemmas.Bool.{ltb-true, ltb-false}
 use Rattle.kb_terms.proofs.Finding.{found}
-use Rattle.kb_terms.proofs.Values.{Extends-trans, IsTerm-extends, value_of-extends, value_of-constant}
+use Rattle.kb_terms.proofs.Values.{Extends-refl, Extends-trans, IsTerm-extends, value_of-extends, value_of-constant}
 use Rattle.kb_frames.specs.State.{State}
 use Rattle.kb_numbered.specs.Conditions.{truth_among}
 use Rattle.kb_frames.specs.Truths.{decided, truth_in}
@@ -22,7 +22,7 @@ use Rattle.kb_ways.specs.declared.condition.Condition.{Condition}
 use Rattle.kb_ways.specs.Asked.{interned_side, interned_condition, asked, all_asked}
 use Rattle.kb_ways.specs.Needs.{IsSide, AreSides}
 use Rattle.kb_frames.specs.Comparing.{relation_of, comparison_in, comparison_of}
-use Rattle.kb_ways.proofs.GrowLaws.{Grows, from_found, side_extends, op_extends, asked_grows, all_asked_grows}
+use Rattle.kb_ways.proofs.GrowLaws.{Grows, from_found, if_has, side_extends, op_extends, asked_grows, all_asked_grows}
 
 -- ---- terms that are made
 
@@ -118,6 +118,13 @@ module _ (nodes : List Node) (variables : List ℤ) (c : Condition) (are : AreSi
       ap (comparison_in (λ (t : TermId). value_of later t variables)) there
       ∙ ap (λ (z : ℤ). option_map (λ (relation : Relation). record { relation = relation; left = z; right = value_of later right.1 variables }) (relation_of c.op)) (left_value e)
       ∙ ap (λ (z : ℤ). option_map (λ (relation : Relation). record { relation = relation; left = side_value nodes variables c.left; right = z }) (relation_of c.op)) (right_value e)
+
+-- the terms of a comparison that was asked for are there
+pub asked_keeps : (state : State) (c : Condition) → Extends (interned_condition state.nodes c).0 (asked state c).nodes
+asked_keeps state c =
+    let made : List Node × TermId = interned_condition state.nodes c in
+    let grown : State = with_nodes state made.0 in
+    if_has (λ (s : State). Extends made.0 s.nodes) (is_some (truth_in grown made.1)) grown (record grown { when = state.when ++ (made.1, c.truth) ∷ [] }) (Extends-refl made.0) (Extends-refl made.0)
 
 -- ---- conditions that are added
 

@@ -7,7 +7,7 @@ use Rattle.kb_frames.specs.declared.value.SymValue.{SymValue}
 use Rattle.kb_frames.specs.Next.{method_now, offset_now}
 use Rattle.kb_frames.specs.State.{State}
 use Rattle.kb_frames.specs.States.{Each, IsLocal, IsSymValue}
-use Rattle.kb_ways.specs.Ways.{Way, Goes, Jumps, Enters, Leaves, Throws, Fails, Take, carries_out, ill_typed, went}
+use Rattle.kb_ways.specs.Ways.{Way, Goes, Jumps, Enters, Leaves, There, Throws, ThrowsThere, Fails, OfClass, Take, carries_out, ill_typed, object_value, went}
 use Rattle.kb_ways.proofs.GrowLaws.{if_has, option_has}
 use Rattle.kb_heap.specs.declared.bounds.Bound.TheVariants.{Loops}
 use Rattle.kb_heap.specs.declared.bounds.Bounds.{Bounds}
@@ -17,7 +17,7 @@ use Rattle.kb_frames.specs.declared.state.Stage.{Stage}
 use Rattle.kb_frames.specs.declared.state.Stage.TheVariants.{Begins, Runs}
 use Rattle.kb_frames.specs.declared.value.Outcome.TheVariants.{Cut}
 use Rattle.kb_frames.specs.Lent.{begun, begun_locals, begun_stage, transfers_of}
-use Rattle.kb_ways.proofs.SoundLaws.{Sound, carried_sound, entered_sound, frame_sound, made_sound, returned_sound}
+use Rattle.kb_ways.proofs.SoundLaws.{Sound, carried_sound, entered_sound, frame_sound, returned_sound, thrown_sound}
 
 -- ---- ways
 
@@ -33,6 +33,7 @@ IsGood world state (Jumps target stack) = Each (IsSymValue world state) stack
 IsGood world state (Enters method arguments rest) = Each (IsSymValue world state) arguments × Each (IsSymValue world state) rest
 IsGood world state (Leaves value) = IsLocal world state value
 IsGood world state (Throws class) = Unit {0}
+IsGood world state (ThrowsThere object kind) = IsSymValue world state (object_value object)
 IsGood world state Fails = Unit {0}
 
 -- ---- ways
@@ -56,7 +57,8 @@ module _ (world : World) (bounds : Bounds) (next : ℕ) (state : State) (frame :
       sound
   went_sound (Enters method arguments rest) good = entered_sound world state frame callers running sound bounds method arguments rest good.0 good.1
   went_sound (Leaves value) good = returned_sound world state frame callers running sound value good
-  went_sound (Throws class) good = made_sound world state class sound
+  went_sound (Throws class) good = thrown_sound world bounds state frame callers running sound (OfClass class) tt
+  went_sound (ThrowsThere object kind) good = thrown_sound world bounds state frame callers running sound (There object kind) good
   went_sound Fails good = sound
 
 -- ---- takes

@@ -16,8 +16,8 @@ use Rattle.kb_frames.specs.Lent.{begun, carried_on, transfers_of}
 use Rattle.kb_frames.specs.Next.{method_now, offset_now}
 use Rattle.kb_frames.specs.State.{State}
 use Rattle.kb_ways.specs.Simulation.{Keeps, ReadsWhatItSees, AddsComparisons}
-use Rattle.kb_ways.specs.Ways.{Take, Way, Goes, Jumps, Enters, Leaves, Throws, Fails, carries_out, resumes, went}
-use Rattle.kb_ways.proofs.CallLaws.{entered_has, returned_has}
+use Rattle.kb_ways.specs.Ways.{Take, There, Thrown, OfClass, Way, Goes, Jumps, Enters, Leaves, Throws, ThrowsThere, Fails, carries_out, caught, resumes, thrown, uncaught, went}
+use Rattle.kb_ways.proofs.CallLaws.{entered_has, returned_has, thrown_has}
 use Rattle.kb_ways.proofs.GrowLaws.{Grows, if_has, option_has, front_itself, front_of_front, interned_extends}
 
 -- ---- what stays
@@ -72,6 +72,17 @@ module _ (world : World) (bounds : Bounds) (next : ℕ) (state : State) where
   pub same_stays : Stays state state
   same_stays = stays_framed state state refl refl refl refl refl
 
+  thrown_stays : (it : Thrown) → StaysTo (thrown world bounds state it)
+  thrown_stays (OfClass class) = thrown_has StaysTo world bounds state (OfClass class) made_stays (λ count target n frame callers is. made_stays_landed count target n) same_stays same_stays where
+    made_stays : StaysTo (uncaught world state (OfClass class))
+    made_stays = record { method = refl; init = refl; picture = refl; terms = interned_extends state.nodes _; conditions = front_itself state.when }
+
+    made_stays_landed : (count target n : ℕ) → StaysTo (caught world state (OfClass class) count target n)
+    made_stays_landed count target n = record { method = refl; init = refl; picture = refl; terms = interned_extends state.nodes _; conditions = front_itself state.when }
+  thrown_stays (There object kind) =
+      thrown_has StaysTo world bounds state (There object kind) same_stays
+      (λ count target n frame callers is. stays_framed state (caught world state (There object kind) count target n).state refl refl refl refl refl) same_stays same_stays
+
   pub went_stays : (way : Way) → StaysTo (went world bounds next state way)
   went_stays (Goes locals stack) =
       if_has StaysTo (has_room world (method_now state.method state.stage) (length stack)) _ _
@@ -85,8 +96,9 @@ module _ (world : World) (bounds : Bounds) (next : ℕ) (state : State) where
       (stays_framed state (carried_on (called world method arguments rest state)) refl refl refl refl refl) same_stays
   went_stays (Leaves value) =
       returned_has StaysTo world state value same_stays
-      (λ caller more waits. stays_framed state (carries_out (left state) (resumes world value)).state refl refl refl refl refl) same_stays
-  went_stays (Throws class) = record { method = refl; init = refl; picture = refl; terms = interned_extends state.nodes _; conditions = front_itself state.when }
+      (λ caller more waits. stays_framed state (carries_out (left 1 state) (resumes world value)).state refl refl refl refl refl) same_stays
+  went_stays (Throws class) = thrown_stays (OfClass class)
+  went_stays (ThrowsThere object kind) = thrown_stays (There object kind)
   went_stays Fails = same_stays
 
 -- ---- what is kept
@@ -122,7 +134,10 @@ went_when world bounds next state (Jumps target stack) =
 went_when world bounds next state (Enters method arguments rest) =
     entered_has (λ (take : Take). take.state.when ≡ state.when) world bounds state method arguments rest refl refl
 went_when world bounds next state (Leaves value) = returned_has (λ (take : Take). take.state.when ≡ state.when) world state value refl (λ caller more waits. refl) refl
-went_when world bounds next state (Throws class) = refl
+went_when world bounds next state (Throws class) =
+    thrown_has (λ (take : Take). take.state.when ≡ state.when) world bounds state (OfClass class) refl (λ count target n frame callers is. refl) refl refl
+went_when world bounds next state (ThrowsThere object kind) =
+    thrown_has (λ (take : Take). take.state.when ≡ state.when) world bounds state (There object kind) refl (λ count target n frame callers is. refl) refl refl
 went_when world bounds next state Fails = refl
 
 module _ (world : World) (bounds : Bounds) (old : State) where

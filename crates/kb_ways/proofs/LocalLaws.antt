@@ -1,5 +1,5 @@
 -- What the locals of a state hold is what those of the configuration hold, and so is what is written into one.
-use Rattle.std.proofs.Common.{◌≡◌, ℕ, zero, suc, Bool, true, false, List, [], ◌∷◌, map, nat_lt, slice_get, slice_set, Option, Some, None, cond, refl, ap, ◌∙◌, if◌then◌else◌}
+use Rattle.std.proofs.Common.{◌≡◌, ◌+◌, ℕ, zero, suc, Bool, true, false, List, [], ◌∷◌, map, nat_lt, slice_get, slice_set, Option, Some, None, cond, refl, ap, ◌∙◌, if◌then◌else◌}
 use Rattle.std.specs.Option.{option_map, option_and_then}
 use Rattle.std.proofs.lemmas.Option.{slice_get-map}
 use Rattle.kb_class.specs.declared.ids.MethodId.{MethodId}
@@ -7,12 +7,12 @@ use Rattle.kb_heap.specs.declared.heap.Value.{Value}
 use Rattle.kb_resolution.specs.Lookup.{only_where}
 use Rattle.kb_semantics.specs.Config.{Setting, Config, Outcome, local_of, max_locals_of}
 use Rattle.kb_semantics.specs.Instructions.{with, sets_local}
-use Rattle.kb_semantics.specs.Ways.{enters, ill_typed, goes_on, jumps, throws, hands_over}
-use Rattle.kb_picture.specs.Endings.{Reading}
+use Rattle.kb_semantics.specs.Ways.{enters, ill_typed, goes_on, jumps, throws, throws_object, hands_over}
+use Rattle.kb_picture.specs.Endings.{Reading, place_at}
 use Rattle.kb_frames.specs.declared.frame.SymFrame.{SymFrame}
 use Rattle.kb_frames.specs.declared.value.SymValue.{SymValue}
 use Rattle.kb_frames.specs.StandsFor.{FrameStandsFor, value_of_sym, values_of_sym}
-use Rattle.kb_ways.specs.Ways.{Way, Goes, Jumps, Enters, Leaves, Throws, Fails}
+use Rattle.kb_ways.specs.Ways.{ObjectThere, OfPicture, OfRun, Way, Goes, Jumps, Enters, Leaves, Throws, ThrowsThere, Fails}
 
 -- ---- lists
 
@@ -23,6 +23,11 @@ set-map f (y ∷ xs) (suc k) x = ap (λ (l : List _). f y ∷ l) (set-map f xs k
 
 -- ---- ways
 
+-- an object that is there, in the heap
+abbrev pub object_place : Reading → ObjectThere → ℕ
+object_place r (OfPicture number) = place_at r.places.objects number
+object_place r (OfRun number) = r.inputs + r.literals + number
+
 -- where a way leads the machine, with each symbolic value in the place of its value
 abbrev pub led_to : Setting → Config → ℕ → Reading → Way → Outcome
 led_to s c next r (Goes locals stack) = goes_on s c next (map (option_map (value_of_sym r)) locals) (values_of_sym r stack) c.heap
@@ -30,6 +35,7 @@ led_to s c next r (Jumps target stack) = jumps s c target (values_of_sym r stack
 led_to s c next r (Enters method arguments rest) = enters s c method (values_of_sym r arguments) (values_of_sym r rest)
 led_to s c next r (Leaves value) = hands_over s c (option_map (value_of_sym r) value)
 led_to s c next r (Throws class) = throws s c class
+led_to s c next r (ThrowsThere object kind) = throws_object s c (object_place r object) kind
 led_to s c next r Fails = ill_typed s c
 
 -- ---- what locals hold

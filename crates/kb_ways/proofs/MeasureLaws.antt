@@ -1,9 +1,10 @@
 -- An argument that is read leaves fewer choices before the same instruction, and each way on has carried out one more.
-use Rattle.std.proofs.Common.{◌≡◌, ℕ, zero, suc, ◌+◌, ◌-◌, ◌<◌, ◌≤◌, List, [], ◌∷◌, ◌++◌, length, length-append, slice_get, Option, Some, None, refl, sym, ap, subst, option_and_then, arith}
+use Rattle.std.proofs.Common.{◌≡◌, ℕ, zero, suc, ◌+◌, ◌-◌, ◌<◌, ◌≤◌, List, [], ◌∷◌, ◌++◌, length, length-append, slice_get, Option, Some, None, refl, sym, ap, subst, ◌∙◌, option_and_then, arith}
 use Rattle.std.specs.Option.{option_map_or}
 use Rattle.std.proofs.lemmas.Option.{slice_get_within}
 use Rattle.kb_class.specs.declared.ids.MethodId.{MethodId}
 use Rattle.kb_class.specs.declared.members.MethodInfo.{MethodInfo}
+use Rattle.kb_code.specs.declared.instruction.Elem.{Elem}
 use Rattle.kb_code.specs.declared.instruction.Instr.{Instr}
 use Rattle.kb_code.specs.declared.instruction.Instr.TheVariants as instrs
 use Rattle.kb_code.specs.declared.instruction.IntOp.{IntOp}
@@ -20,15 +21,18 @@ use Rattle.kb_frames.specs.declared.frame.SymFrame.{SymFrame}
 use Rattle.kb_frames.specs.declared.state.Stage.{Stage}
 use Rattle.kb_frames.specs.declared.state.Stage.TheVariants.{Begins, Runs}
 use Rattle.kb_frames.specs.declared.value.SymValue.{SymValue}
-use Rattle.kb_frames.specs.declared.value.SymValue.TheVariants.{Int}
+use Rattle.kb_frames.specs.declared.value.SymValue.TheVariants.{Int, Obj}
+use Rattle.kb_frames.specs.declared.value.Cell.{Cell}
+use Rattle.kb_frames.specs.declared.value.Cell.TheVariants.{Untouched, Read, Written}
 use Rattle.kb_frames.specs.State.{State}
 use Rattle.kb_frames.specs.FirstReads.{first_int, with_read}
-use Rattle.kb_frames.specs.Lent.{read_count, transfers_of}
-use Rattle.kb_ways.specs.Measure.{questions_of, questions_of_op, unread_at, left_of, choices_left}
+use Rattle.kb_frames.specs.Heaps.{find_cell}
+use Rattle.kb_frames.specs.Lent.{read_count, stack_of, transfers_of}
+use Rattle.kb_ways.specs.Measure.{questions_of, questions_of_op, unread_at, left_of, choices_left, unchosen, unknown, untouched, untouched_in}
 use Rattle.kb_frames.specs.Next.{argument_next, instruction_next, method_now, offset_now}
 use Rattle.kb_ways.specs.Simulation.{GetsOn}
-use Rattle.kb_ways.specs.Ways.{Take, Way, Goes, Jumps, Enters, Leaves, Throws, Fails, carries_out, went}
-use Rattle.kb_ways.proofs.CallLaws.{entered_has, returned_has}
+use Rattle.kb_ways.specs.Ways.{Take, There, OfClass, Way, Goes, Jumps, Enters, Leaves, Throws, ThrowsThere, Fails, carries_out, went}
+use Rattle.kb_ways.proofs.CallLaws.{entered_has, returned_has, thrown_has}
 use Rattle.kb_ways.proofs.GrowLaws.{if_has, option_has}
 
 -- ---- instructions
@@ -46,19 +50,42 @@ few_of_op ops.And = omega arith
 few_of_op ops.Or = omega arith
 few_of_op ops.Xor = omega arith
 
--- no instruction needs more than five choices
-pub few : (instr : Instr) → questions_of instr ≤ 5
-few (instrs.IfInt cond target) = omega arith
-few (instrs.IfPair cond target) = omega arith
-few (instrs.Table low default targets) = omega arith
-few (instrs.Lookup default keys) = omega arith
-few (instrs.Int2 op) = few_of_op op
-few (instrs.GetField entry) = omega arith
-few _ = omega arith
+few_untouched : (cell : Option Cell) → untouched cell ≤ 1
+few_untouched None = omega arith
+few_untouched (Some Untouched) = omega arith
+few_untouched (Some (Read value)) = omega arith
+few_untouched (Some (Written value)) = omega arith
 
-pub few_next : (found : Option Instr) → option_map_or questions_of found 0 ≤ 5
-few_next None = omega arith
-few_next (Some instr) = few instr
+few_in : (state : State) (place : ℕ) (array : Option SymValue) → untouched_in state place array ≤ 1
+few_in state place (Some (Obj number)) = few_untouched (find_cell state.cells number place)
+few_in state place _ = omega arith
+
+-- an index and an element
+few_unknown : (state : State) (chosen : Option ℕ) → unchosen chosen + unknown state chosen ≤ 2
+few_unknown state None = omega arith
+few_unknown state (Some place) = (let one = few_in state place (slice_get (stack_of state.stage) 1) in omega (arith, one))
+
+few_unchosen : (chosen : Option ℕ) → unchosen chosen ≤ 1
+few_unchosen None = omega arith
+few_unchosen (Some place) = omega arith
+
+-- no instruction needs more than five choices
+pub few : (state : State) (instr : Instr) → questions_of state instr ≤ 5
+few state (instrs.IfInt cond target) = omega arith
+few state (instrs.IfPair cond target) = omega arith
+few state (instrs.Table low default targets) = omega arith
+few state (instrs.Lookup default keys) = omega arith
+few state (instrs.Int2 op) = few_of_op op
+few state (instrs.GetField entry) = omega arith
+few state (instrs.LoadElem elem) = (let two = few_unknown state state.chosen in omega (arith, two))
+few state (instrs.StoreElem elem) = (let one = few_unchosen state.chosen in omega (arith, one))
+few state (instrs.NewPrim code) = omega arith
+few state (instrs.NewRefs entry) = omega arith
+few state _ = omega arith
+
+pub few_next : (state : State) (found : Option Instr) → option_map_or (questions_of state) found 0 ≤ 5
+few_next state None = omega arith
+few_next state (Some instr) = few state instr
 
 -- ---- arguments
 
@@ -81,20 +108,49 @@ module _ (world : World) (bounds : Bounds) (old : State) where
   abbrev pub Gets : Take → Type 0
   Gets take = GetsOn world old take.state take.outcome
 
-  pub reads_on : (stage : Stage) (type : JType) → old.stage ≡ stage → argument_next world old.method old.stage ≡ Some type → choices_left world (first_int (Arg (read_count old.stage)) (kind_for (Some type)) old) < choices_left world old
-  reads_on (Begins read) type is e =
-      let value = Int (record { 0 = length old.nodes }) in
+  -- what is left of a state of that method at that stage
+  abbrev left_at : State → MethodId → Stage → ℕ
+  left_at state method stage = left_of (unread_at world method stage) (option_map_or (questions_of state) (instruction_next world method stage) 0)
+
+  -- whatever the argument is, and whatever else is found with it
+  pub argument_on : (new : State) (value : SymValue) (stage : Stage) (type : JType) → old.stage ≡ stage → argument_next world old.method old.stage ≡ Some type → new.method ≡ old.method
+      → new.stage ≡ with_read old.stage value → choices_left world new < choices_left world old
+  argument_on new value (Begins read) type is e method staged =
+      let later : Stage = Begins (read ++ value ∷ []) in
       let next : argument_next world old.method (Begins read) ≡ Some type = subst (λ (s : Stage). argument_next world old.method s ≡ Some type) is e in
-      let one : unread_at world old.method (Begins read) ≡ suc (unread_at world old.method (Begins (read ++ value ∷ []))) = fewer_unread world old.method read value type next in
-      let less = fewer (unread_at world old.method (Begins (read ++ value ∷ []))) (option_map_or questions_of (instruction_next world old.method (Begins (read ++ value ∷ []))) 0)
-      (option_map_or questions_of (instruction_next world old.method (Begins read)) 0) (few_next (instruction_next world old.method (Begins (read ++ value ∷ [])))) in
-      subst (λ (s : Stage). left_of (unread_at world old.method (with_read s value)) (option_map_or questions_of (instruction_next world old.method (with_read s value)) 0)
-      < left_of (unread_at world old.method s) (option_map_or questions_of (instruction_next world old.method s) 0)) (sym is)
-      (subst (λ n. left_of (unread_at world old.method (Begins (read ++ value ∷ []))) (option_map_or questions_of (instruction_next world old.method (Begins (read ++ value ∷ []))) 0)
-      < left_of n (option_map_or questions_of (instruction_next world old.method (Begins read)) 0)) (sym one) less)
-  reads_on (Runs frame callers) type is e = absurd (none (subst (λ (s : Stage). argument_next world old.method s ≡ Some type) is e)) where
+      let one : unread_at world old.method (Begins read) ≡ suc (unread_at world old.method later) = fewer_unread world old.method read value type next in
+      let less = fewer (unread_at world old.method later) (option_map_or (questions_of new) (instruction_next world old.method later) 0)
+      (option_map_or (questions_of old) (instruction_next world old.method (Begins read)) 0) (few_next new (instruction_next world old.method later)) in
+      let now : choices_left world new ≡ left_at new old.method later =
+      ap (λ (m : MethodId). left_at new m new.stage) method ∙ ap (left_at new old.method) (staged ∙ ap (λ (s : Stage). with_read s value) is) in
+      let before : choices_left world old ≡ left_of (suc (unread_at world old.method later)) (option_map_or (questions_of old) (instruction_next world old.method (Begins read)) 0) =
+      ap (left_at old old.method) is ∙ ap (λ (n : ℕ). left_of n (option_map_or (questions_of old) (instruction_next world old.method (Begins read)) 0)) one in
+      subst (λ (n : ℕ). n < choices_left world old) (sym now) (subst (λ (n : ℕ). left_at new old.method later < n) (sym before) less)
+  argument_on new value (Runs frame callers) type is e method staged = absurd (none (subst (λ (s : Stage). argument_next world old.method s ≡ Some type) is e)) where
     none : None ≡ Some type → ⊥
     none h = cc
+
+  pub reads_on : (stage : Stage) (type : JType) → old.stage ≡ stage → argument_next world old.method old.stage ≡ Some type → choices_left world (first_int (Arg (read_count old.stage)) (kind_for (Some type)) old) < choices_left world old
+  reads_on stage type is e = argument_on (first_int (Arg (read_count old.stage)) (kind_for (Some type)) old) (Int (record { 0 = length old.nodes })) stage type is e refl refl
+
+  -- ---- places
+
+  -- where a place is chosen, what the element holds may be open still
+  pub place_on : (new : State) (elem : Elem) (place : ℕ) → unread_at world old.method old.stage ≡ 0 → instruction_next world old.method old.stage ≡ Some (instrs.LoadElem elem)
+      → old.chosen ≡ None → new.method ≡ old.method → new.stage ≡ old.stage → new.chosen ≡ Some place → choices_left world new < choices_left world old
+  place_on new elem place none next unchosen_yet method stage chosen =
+      let one : unknown new (Some place) ≤ 1 = few_in new place (slice_get (stack_of new.stage) 1) in
+      let sum : unchosen (Some place) + unknown new (Some place) ≡ unknown new (Some place) = omega arith in
+      let now : choices_left world new ≡ unknown new (Some place) =
+      ap (λ (m : MethodId). left_at new m new.stage) method ∙ ap (left_at new old.method) stage
+      ∙ ap (λ (n : ℕ). left_of n (option_map_or (questions_of new) (instruction_next world old.method old.stage) 0)) none
+      ∙ ap (λ (i : Option Instr). option_map_or (questions_of new) i 0) next
+      ∙ ap (λ (c : Option ℕ). unchosen c + unknown new c) chosen ∙ sum in
+      let before : choices_left world old ≡ 2 =
+      ap (λ (n : ℕ). left_of n (option_map_or (questions_of old) (instruction_next world old.method old.stage) 0)) none
+      ∙ ap (λ (i : Option Instr). option_map_or (questions_of old) i 0) next
+      ∙ ap (λ (c : Option ℕ). unchosen c + unknown old c) unchosen_yet in
+      omega (arith, one, now, before)
 
   -- ---- ways on
 
@@ -108,5 +164,6 @@ module _ (world : World) (bounds : Bounds) (old : State) where
       (option_has Gets (counted bounds.run (offset_now state.stage) target (transfers_of state.stage)) _ _ (λ n. carries state (λ (frame : SymFrame). record frame { at = target; stack = stack; transfers = n }) e) tt) tt
   went_on next state (Enters method arguments rest) e = entered_has Gets world bounds state method arguments rest (ap (λ n. n + 1) e) tt
   went_on next state (Leaves value) e = returned_has Gets world state value tt (λ caller more waits. ap (λ n. n + 1) e) tt
-  went_on next state (Throws class) e = tt
+  went_on next state (Throws class) e = thrown_has Gets world bounds state (OfClass class) tt (λ count target n frame callers is. ap (λ n. n + 1) e) tt tt
+  went_on next state (ThrowsThere object kind) e = thrown_has Gets world bounds state (There object kind) tt (λ count target n frame callers is. ap (λ n. n + 1) e) tt tt
   went_on next state Fails e = tt

@@ -97,26 +97,27 @@ met_among nodes variables (x ∷ when) t so met e = go (met_among nodes variable
   go later false other e = later e
 
 -- a truth among conditions with one more is that of the others, or of that one
-among_more : (when : List (TermId × Bool)) (u : TermId) (b : Bool) (t : TermId) (so : Bool) → truth_among (when ++ (u, b) ∷ []) t ≡ Some so → (truth_among when t ≡ Some so) ⊎ (so ≡ b)
-among_more [] u b t so e = go (t.0 == u.0) e where
-  go : (same : Bool) → cond same (Some b) None ≡ Some so → (None ≡ Some so) ⊎ (so ≡ b)
-  go true e = inr (let asks : b ≡ so = cc in sym asks)
-  go false e = inl e
+among_more : (when : List (TermId × Bool)) (u : TermId) (b : Bool) (t : TermId) (so : Bool) → truth_among (when ++ (u, b) ∷ []) t ≡ Some so
+    → (truth_among when t ≡ Some so) ⊎ ((t.0 ≡ u.0) × (so ≡ b))
+among_more [] u b t so e = go (t.0 == u.0) refl e where
+  go : (same : Bool) → (t.0 == u.0) ≡ same → cond same (Some b) None ≡ Some so → (None ≡ Some so) ⊎ ((t.0 ≡ u.0) × (so ≡ b))
+  go true is e = inr (eqb-true t.0 u.0 is, (let asks : b ≡ so = cc in sym asks))
+  go false is e = inl e
 among_more (x ∷ when) u b t so e = go (among_more when u b t so) (t.0 == x.0.0) e where
-  go : (truth_among (when ++ (u, b) ∷ []) t ≡ Some so → (truth_among when t ≡ Some so) ⊎ (so ≡ b)) → (same : Bool)
-      → cond same (Some x.1) (truth_among (when ++ (u, b) ∷ []) t) ≡ Some so → (cond same (Some x.1) (truth_among when t) ≡ Some so) ⊎ (so ≡ b)
+  go : (truth_among (when ++ (u, b) ∷ []) t ≡ Some so → (truth_among when t ≡ Some so) ⊎ ((t.0 ≡ u.0) × (so ≡ b))) → (same : Bool)
+      → cond same (Some x.1) (truth_among (when ++ (u, b) ∷ []) t) ≡ Some so → (cond same (Some x.1) (truth_among when t) ≡ Some so) ⊎ ((t.0 ≡ u.0) × (so ≡ b))
   go later true e = inl e
   go later false e = later e
 
 -- ---- what holds
 
 -- the condition holds of the values of its sides
-abbrev pub Holds : List Node → List ℤ → Condition → Type 0
-Holds nodes variables c = op_value c.op (side_value nodes variables c.left) (side_value nodes variables c.right) ≡ truth c.truth
+abbrev pub ConditionHolds : List Node → List ℤ → Condition → Type 0
+ConditionHolds nodes variables c = op_value c.op (side_value nodes variables c.left) (side_value nodes variables c.right) ≡ truth c.truth
 
 abbrev pub AllHold : List Node → List ℤ → List Condition → Type 0
 AllHold nodes variables [] = Unit {0}
-AllHold nodes variables (c ∷ cs) = Holds nodes variables c × AllHold nodes variables cs
+AllHold nodes variables (c ∷ cs) = ConditionHolds nodes variables c × AllHold nodes variables cs
 
 abbrev pub AllSides : List Node → List Condition → Type 0
 AllSides nodes [] = Unit {0}
@@ -214,7 +215,7 @@ module _ (state : State) (c : Condition) (are : AreSides state.nodes c) (ready :
     go true = record { ordered = term_ordered; terms = old_terms }
     go false = record { ordered = term_ordered; terms = terms_more term.0 state.when (term.1, c.truth) old_terms term_there }
 
-  pub asked_met : (variables : List ℤ) → Holds state.nodes variables c → AreMetInPool state.nodes variables state.when → AreMetInPool (asked state c).nodes variables (asked state c).when
+  pub asked_met : (variables : List ℤ) → ConditionHolds state.nodes variables c → AreMetInPool state.nodes variables state.when → AreMetInPool (asked state c).nodes variables (asked state c).when
   asked_met variables holds met = go (is_some (truth_in grown term.1)) where
     before : AreMetInPool term.0 variables state.when
     before = met_later state.nodes term.0 variables state.when state_term ready.terms met
@@ -225,12 +226,12 @@ module _ (state : State) (c : Condition) (are : AreSides state.nodes c) (ready :
 
   -- unless it is decided against what is asked for
   pub asked_holds : (variables : List ℤ) → IsTruth c.op → ((so : Bool) → truth_in grown term.1 ≡ Some so → so ≡ c.truth)
-      → AreMetInPool (asked state c).nodes variables (asked state c).when → Holds state.nodes variables c
+      → AreMetInPool (asked state c).nodes variables (asked state c).when → ConditionHolds state.nodes variables c
   asked_holds variables is wanted met = go (truth_in grown term.1) refl met where
-    by_value : (so : Bool) → so ≡ c.truth → value_of term.0 term.1 variables ≡ truth so → Holds state.nodes variables c
+    by_value : (so : Bool) → so ≡ c.truth → value_of term.0 term.1 variables ≡ truth so → ConditionHolds state.nodes variables c
     by_value so same e = sym (term_value variables) ∙ e ∙ ap truth same
 
-    by_constant : (so : Bool) (z : ℤ) → so ≡ c.truth → constant_at term.0 term.1 ≡ Some z → not (int_eq z (pos 0)) ≡ so → Holds state.nodes variables c
+    by_constant : (so : Bool) (z : ℤ) → so ≡ c.truth → constant_at term.0 term.1 ≡ Some z → not (int_eq z (pos 0)) ≡ so → ConditionHolds state.nodes variables c
     by_constant so z same at e =
         let known = is (side_value state.nodes variables c.left) (side_value state.nodes variables c.right) in
         let value : z ≡ truth known.0 = sym (value_of-constant_at term.0 term.1 z variables at) ∙ term_value variables ∙ known.1 in
@@ -238,17 +239,17 @@ module _ (state : State) (c : Condition) (are : AreSides state.nodes c) (ready :
         known.1 ∙ ap truth (truths ∙ same)
 
     by_decided : (so : Bool) → so ≡ c.truth → AreMetInPool term.0 variables state.when → (k : Option ℤ) → constant_at term.0 term.1 ≡ k
-        → decided k (truth_among state.when term.1) ≡ Some so → Holds state.nodes variables c
+        → decided k (truth_among state.when term.1) ≡ Some so → ConditionHolds state.nodes variables c
     by_decided so same met None at e = by_value so same (met_among term.0 variables state.when term.1 so met e)
     by_decided so same met (Some z) at e = by_constant so z same at (let inside : not (int_eq z (pos 0)) ≡ so = cc in inside)
 
-    go : (known : Option Bool) → truth_in grown term.1 ≡ known → AreMetInPool (next (is_some known)).nodes variables (next (is_some known)).when → Holds state.nodes variables c
+    go : (known : Option Bool) → truth_in grown term.1 ≡ known → AreMetInPool (next (is_some known)).nodes variables (next (is_some known)).when → ConditionHolds state.nodes variables c
     go None e met = by_value c.truth refl (met_last term.0 variables state.when (term.1, c.truth) met)
     go (Some so) e met = by_decided so (wanted so e) met (constant_at term.0 term.1) refl e
 
   -- a truth among the conditions behind it is one from before, or the one that is asked for
-  pub asked_among : (t : TermId) (so : Bool) → truth_among (asked state c).when t ≡ Some so → (truth_among state.when t ≡ Some so) ⊎ (so ≡ c.truth)
+  pub asked_among : (t : TermId) (so : Bool) → truth_among (asked state c).when t ≡ Some so → (truth_among state.when t ≡ Some so) ⊎ ((t.0 ≡ term.1.0) × (so ≡ c.truth))
   asked_among t so = go (is_some (truth_in grown term.1)) where
-    go : (b : Bool) → truth_among (next b).when t ≡ Some so → (truth_among state.when t ≡ Some so) ⊎ (so ≡ c.truth)
+    go : (b : Bool) → truth_among (next b).when t ≡ Some so → (truth_among state.when t ≡ Some so) ⊎ ((t.0 ≡ term.1.0) × (so ≡ c.truth))
     go true e = inl e
     go false e = among_more state.when term.1 c.truth t so e

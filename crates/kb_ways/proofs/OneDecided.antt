@@ -25,7 +25,7 @@ use Rattle.kb_ways.specs.Needs.{IsSide, AreSides}
 use Rattle.kb_ways.proofs.AskedLaws.{interned_node, interned_is_term, side_value, later_node}
 use Rattle.kb_ways.proofs.GrowLaws.{Grows, side_extends, op_extends, asked_grows, all_asked_grows}
 use Rattle.kb_ways.proofs.ValueLaws.{IsOrdered, operation_value}
-use Rattle.kb_ways.proofs.OneAsked.{AreTermsOf, among_there, met_front, met_earlier, met_among, Holds, AllHold, AllSides, sides_later_one, sides_later, compared_later, hold_later, IsTruth, truth_not_0, IsReady, asked_ready, asked_met, asked_holds, asked_among}
+use Rattle.kb_ways.proofs.OneAsked.{AreTermsOf, among_there, met_front, met_earlier, met_among, ConditionHolds, AllHold, AllSides, sides_later_one, sides_later, compared_later, hold_later, IsTruth, truth_not_0, IsReady, asked_ready, asked_met, asked_holds, asked_among}
 
 -- ---- what is decided
 
@@ -40,12 +40,12 @@ term_same old mid new (Number z) pool e f is =
     let t = (interned mid (Const z)).1 in
     found_there old (Const z) t pool (sym (later_node old new t e is) ∙ later_node (interned mid (Const z)).0 new t f (interned_is_term mid (Const z)) ∙ interned_node mid (Const z))
 
--- each truth among the conditions of a later state is one of the earlier state, or this one
-abbrev From : State → State → Bool → Type 0
-From old state b = (t : TermId) (so : Bool) → truth_among state.when t ≡ Some so → (truth_among old.when t ≡ Some so) ⊎ (so ≡ b)
+-- each truth among the conditions of a later state is one of the earlier state, or such a one of its term
+abbrev pub From : State → State → (TermId → Bool → Type 0) → Type 0
+From old state P = (t : TermId) (so : Bool) → truth_among state.when t ≡ Some so → (truth_among old.when t ≡ Some so) ⊎ P t so
 
--- what a later state decides of a condition was decided in the earlier one, or is this truth
-module _ (old : State) (pool : IsPool old.nodes) (terms : AreTermsOf old.nodes old.when) (state : State) (e : Extends old.nodes state.nodes) (b : Bool) (from : From old state b)
+-- what a later state decides of a condition was decided in the earlier one, or it is such a truth of its term, which is no constant
+module _ (old : State) (pool : IsPool old.nodes) (terms : AreTermsOf old.nodes old.when) (state : State) (e : Extends old.nodes state.nodes) (P : TermId → Bool → Type 0) (from : From old state P)
     (c : Condition) (are : AreSides old.nodes c) where
   abbrev one : List Node × TermId
   one = interned_side state.nodes c.left
@@ -71,13 +71,13 @@ module _ (old : State) (pool : IsPool old.nodes) (terms : AreTermsOf old.nodes o
   old_made : Extends old.nodes made.0
   old_made = Extends-trans old.nodes other.0 made.0 old_other other_made
 
-  left_number : constant_at other.0 one.1 ≡ number_of old.nodes c.left
+  pub left_number : constant_at other.0 one.1 ≡ number_of old.nodes c.left
   left_number = number_same old.nodes state.nodes other.0 c.left e one_other are.left
 
   right_number : constant_at other.0 other.1 ≡ number_of old.nodes c.right
   right_number = number_same old.nodes one.0 other.0 c.right old_one (Extends-refl other.0) are.right
 
-  node_is : node_at made.0 made.1 ≡ Some (folded c.op one.1 (Some other.1) (number_of old.nodes c.left) (number_of old.nodes c.right))
+  pub node_is : node_at made.0 made.1 ≡ Some (folded c.op one.1 (Some other.1) (number_of old.nodes c.left) (number_of old.nodes c.right))
   unfolding made_node
   node_is =
       interned_node other.0 (made_node other.0 c.op one.1 (Some other.1))
@@ -103,18 +103,22 @@ module _ (old : State) (pool : IsPool old.nodes) (terms : AreTermsOf old.nodes o
       front_there : (nodes : List Node) (n : ℕ) (t : TermId) → IsTerm (take n nodes) t → IsTerm nodes t
       front_there nodes n t is = omega (arith, is, length-take n nodes)
 
-  pub decided_before : (so : Bool) → truth_in (with_nodes state made.0) made.1 ≡ Some so → (asked_truth old c ≡ Some so) ⊎ (so ≡ b)
+  -- the truth is one of those, of a comparison of two terms
+  abbrev Such : Bool → Type 0
+  Such so = P made.1 so × (node_at made.0 made.1 ≡ Some (Apply c.op one.1 (Some other.1)))
+
+  pub decided_before : (so : Bool) → truth_in (with_nodes state made.0) made.1 ≡ Some so → (asked_truth old c ≡ Some so) ⊎ Such so
   decided_before so known = go (number_of old.nodes c.left) (number_of old.nodes c.right) node_is where
     -- where it is no constant
     open_one : node_at made.0 made.1 ≡ Some (Apply c.op one.1 (Some other.1))
-        → (option_and_then (truth_among old.when) (comparison_with old.nodes c.op (term_of old.nodes c.left) (term_of old.nodes c.right)) ≡ Some so) ⊎ (so ≡ b)
+        → (option_and_then (truth_among old.when) (comparison_with old.nodes c.op (term_of old.nodes c.left) (term_of old.nodes c.right)) ≡ Some so) ⊎ Such so
     open_one node =
         let none : constant_at made.0 made.1 ≡ None = ap constant_of node in
         let among : truth_among state.when made.1 ≡ Some so = ap (λ (k : Option ℤ). decided k (truth_among state.when made.1)) (sym none) ∙ known in
-        elim (from made.1 so among) [ inl before ↦ inl (found_before so node before) | inr same ↦ inr same ]
+        elim (from made.1 so among) [ inl before ↦ inl (found_before so node before) | inr such ↦ inr (such, node) ]
 
     go : (k m : Option ℤ) → node_at made.0 made.1 ≡ Some (folded c.op one.1 (Some other.1) k m)
-        → (decided (known_value c.op k m) (option_and_then (truth_among old.when) (comparison_with old.nodes c.op (term_of old.nodes c.left) (term_of old.nodes c.right))) ≡ Some so) ⊎ (so ≡ b)
+        → (decided (known_value c.op k m) (option_and_then (truth_among old.when) (comparison_with old.nodes c.op (term_of old.nodes c.left) (term_of old.nodes c.right))) ≡ Some so) ⊎ Such so
     go (Some x) (Some y) node =
         let constant : constant_at made.0 made.1 ≡ Some (op_value c.op x y) = ap constant_of node in
         inl (ap (λ (k : Option ℤ). decided k (truth_among state.when made.1)) (sym constant) ∙ known)
@@ -153,7 +157,7 @@ abbrev pub AllOpen : State → Bool → List Condition → Type 0
 AllOpen old b [] = Unit {0}
 AllOpen old b (c ∷ cs) = IsOpen old b c × AllOpen old b cs
 
-not_against : (so wanted : Bool) → is_against (Some so) wanted ≡ false → so ≡ wanted
+pub not_against : (so wanted : Bool) → is_against (Some so) wanted ≡ false → so ≡ wanted
 not_against true true e = refl
 not_against false true e = absurd (true≢false e)
 not_against true false e = absurd (true≢false e)
@@ -161,21 +165,25 @@ not_against false false e = refl
 
 -- where they are met, they all hold
 module _ (old : State) (pool : IsPool old.nodes) (terms : AreTermsOf old.nodes old.when) (b : Bool) (variables : List ℤ) where
-  one_holds : (c : Condition) (state : State) → Extends old.nodes state.nodes → From old state b → IsReady state → AreSides old.nodes c → IsOpen old b c
-      → AreMetInPool (asked state c).nodes variables (asked state c).when → Holds old.nodes variables c
+  -- each truth that is added is this one
+  abbrev pub IsThis : TermId → Bool → Type 0
+  IsThis t so = so ≡ b
+
+  pub one_holds : (c : Condition) (state : State) → Extends old.nodes state.nodes → From old state IsThis → IsReady state → AreSides old.nodes c → IsOpen old b c
+      → AreMetInPool (asked state c).nodes variables (asked state c).when → ConditionHolds old.nodes variables c
   one_holds c state e from ready are is met =
       let sides : AreSides state.nodes c = sides_later_one old.nodes state.nodes c e are in
       sym (compared_later old.nodes state.nodes variables c e are) ∙ asked_holds state c sides ready variables is.is wanted met where
         wanted : (so : Bool) → truth_in (with_nodes state (interned_condition state.nodes c).0) (interned_condition state.nodes c).1 ≡ Some so → so ≡ c.truth
-        wanted so known = elim (decided_before old pool terms state e b from c are so known) [
+        wanted so known = elim (decided_before old pool terms state e IsThis from c are so known) [
           | inl before ↦ not_against so c.truth (ap (λ (k : Option Bool). is_against k c.truth) (sym before) ∙ is.undecided)
-          | inr same ↦ same ∙ sym is.same
+          | inr such ↦ such.0 ∙ sym is.same
         ]
 
-  from_next : (c : Condition) (state : State) → IsReady state → AreSides state.nodes c → c.truth ≡ b → From old state b → From old (asked state c) b
-  from_next c state ready are same from t so among = elim (asked_among state c are ready t so among) [ inl before ↦ from t so before | inr this ↦ inr (this ∙ same) ]
+  from_next : (c : Condition) (state : State) → IsReady state → AreSides state.nodes c → c.truth ≡ b → From old state IsThis → From old (asked state c) IsThis
+  from_next c state ready are same from t so among = elim (asked_among state c are ready t so among) [ inl before ↦ from t so before | inr this ↦ inr (this.1 ∙ same) ]
 
-  all_hold_from : (cs : List Condition) (state : State) → Extends old.nodes state.nodes → From old state b → IsReady state → AllSides old.nodes cs → AllOpen old b cs
+  all_hold_from : (cs : List Condition) (state : State) → Extends old.nodes state.nodes → From old state IsThis → IsReady state → AllSides old.nodes cs → AllOpen old b cs
       → AreMetInPool (all_asked state cs).nodes variables (all_asked state cs).when → AllHold old.nodes variables cs
   all_hold_from [] state e from ready are is met = tt
   all_hold_from (c ∷ cs) state e from ready are is met =
@@ -213,7 +221,7 @@ module _ (old : State) (ordered : IsOrdered old.nodes) (variables : List ℤ) (m
   side_of_term (Term u) t e = (let same : u ≡ t = cc in ap (λ (x : TermId). value_of old.nodes x variables) (sym same))
   side_of_term (Number z) t e = value_of-constant old.nodes t z variables (found old.nodes (Const z) t e)
 
-  module _ (c : Condition) (holds : Holds old.nodes variables c) where
+  module _ (c : Condition) (holds : ConditionHolds old.nodes variables c) where
     by_numbers : (a b : ℤ) → number_of old.nodes c.left ≡ Some a → number_of old.nodes c.right ≡ Some b → not (int_eq (op_value c.op a b) (pos 0)) ≡ c.truth
     by_numbers a b p q =
         let value : op_value c.op a b ≡ truth c.truth =

@@ -3,6 +3,7 @@ use Rattle.std.proofs.Common.{◌≡◌, ℕ, zero, suc, ◌≤◌, ℤ, Bool, f
 use Rattle.std.specs.List.{cons_option, filter_map}
 use Rattle.std.proofs.lemmas.List.Elements.{filter_map-append}
 use Rattle.kb_blast.specs.Meaning.{AreMetInPool}
+use Rattle.kb_blast.specs.Query.{kinds_of}
 use Rattle.kb_heap.specs.declared.heap.Heap.{Heap}
 use Rattle.kb_heap.specs.declared.heap.Input.{Input}
 use Rattle.kb_heap.specs.declared.heap.Value.{Value}
@@ -27,6 +28,7 @@ use Rattle.kb_picture.specs.Growth.{after_int_read}
 use Rattle.kb_picture.specs.Instances.{variable_value, variable_values}
 use Rattle.kb_picture.specs.Laws.{with_seen}
 use Rattle.kb_picture.specs.Places.{slot_value}
+use Rattle.kb_picture.specs.Queries.{kinds_seen}
 use Rattle.kb_picture.specs.Shapes.{HasShape, HoldEach, HoldsSeen}
 use Rattle.kb_picture.specs.WellFormed.{variable_seen, variables_seen}
 use Rattle.kb_picture.proofs.PlaceLaws.{places_seen}
@@ -39,7 +41,7 @@ use Rattle.kb_frames.specs.State.{State}
 use Rattle.kb_frames.specs.States.{IsState}
 use Rattle.kb_frames.proofs.FormedPaths.{variables-same}
 use Rattle.kb_ways.proofs.OneAsked.{AreTermsOf, conditions_there, met_later, met_earlier}
-use Rattle.kb_ways.proofs.ValueLaws.{more_inputs}
+use Rattle.kb_ways.proofs.ValueLaws.{VariablesBelow, enough_below, inputs_behind, pool_below}
 
 -- ---- with the same picture
 
@@ -92,14 +94,21 @@ variables_more picture input places argument z e =
     ∙ ap (λ (value : Option Value). filter_map (λ (slot : Origin × Seen). variable_value (slot_value input places slot.0) slot.1) picture.seen
     ++ cons_option (variable_value value how) []) e
 
-pub value_inputs : (nodes : List Node) (t : TermId) (inputs more : List ℤ) → IsPool nodes → variables_of nodes ≤ length inputs → value_of nodes t (inputs ++ more) ≡ value_of nodes t inputs
+pub value_behind : (nodes : List Node) (t : TermId) (inputs more : List ℤ) → VariablesBelow (length inputs) nodes → value_of nodes t (inputs ++ more) ≡ value_of nodes t inputs
 unfolding value_of
-value_inputs nodes t inputs more pool enough = ap (λ (vs : List ℤ). int_at vs t.0) (more_inputs nodes inputs more pool enough)
+value_behind nodes t inputs more below = ap (λ (vs : List ℤ). int_at vs t.0) (inputs_behind nodes inputs more below)
+
+pub met_behind : (nodes : List Node) (inputs more : List ℤ) (when : List (TermId × Bool)) → VariablesBelow (length inputs) nodes → AreMetInPool nodes inputs when
+    → AreMetInPool nodes (inputs ++ more) when
+met_behind nodes inputs more [] below met = tt
+met_behind nodes inputs more (x ∷ when) below met = (value_behind nodes x.0 inputs more below ∙ met.0, met_behind nodes inputs more when below met.1)
+
+pub value_inputs : (nodes : List Node) (t : TermId) (inputs more : List ℤ) → IsPool nodes → variables_of nodes ≤ length inputs → value_of nodes t (inputs ++ more) ≡ value_of nodes t inputs
+value_inputs nodes t inputs more pool enough = value_behind nodes t inputs more (enough_below (variables_of nodes) (length inputs) nodes enough (pool_below nodes pool))
 
 pub met_inputs : (nodes : List Node) (inputs more : List ℤ) (when : List (TermId × Bool)) → IsPool nodes → variables_of nodes ≤ length inputs → AreMetInPool nodes inputs when
     → AreMetInPool nodes (inputs ++ more) when
-met_inputs nodes inputs more [] pool enough met = tt
-met_inputs nodes inputs more (x ∷ when) pool enough met = (value_inputs nodes x.0 inputs more pool enough ∙ met.0, met_inputs nodes inputs more when pool enough met.1)
+met_inputs nodes inputs more when pool enough met = met_behind nodes inputs more when (enough_below (variables_of nodes) (length inputs) nodes enough (pool_below nodes pool)) met
 
 count_values : (input : Input) (places : List ℕ) (seen : List (Origin × Seen))
     → length (filter_map (λ (slot : Origin × Seen). variable_seen slot.1) seen) ≡ length (filter_map (λ (slot : Origin × Seen). variable_value (slot_value input places slot.0) slot.1) seen)
@@ -116,9 +125,13 @@ count_values input places (slot ∷ seen) = go slot.1 (count_values input places
   go seens.Beyond rest = rest
 
 -- each variable of the pool has a value, and no other has
-pub many_values : (world : World) (old : State) (input : Input) (places : List ℕ) → IsState world old → variables_of old.nodes ≡ length (variable_values old.picture input places)
+pub variables_many : (world : World) (old : State) (input : Input) (places : List ℕ) → kinds_of old.nodes ≡ kinds_seen world old.method old.picture
+    → variables_of old.nodes ≡ length (variable_values old.picture input places)
 unfolding variable_values
-many_values world old input places sound = variables-same world old.method old.nodes old.picture sound.kinds ∙ count_values input places old.picture.seen
+variables_many world old input places kinds = variables-same world old.method old.nodes old.picture kinds ∙ count_values input places old.picture.seen
+
+pub many_values : (world : World) (old : State) (input : Input) (places : List ℕ) → IsState world old → variables_of old.nodes ≡ length (variable_values old.picture input places)
+many_values world old input places sound = variables_many world old input places sound.kinds
 
 pub enough_values : (world : World) (old : State) (input : Input) (places : List ℕ) → IsState world old → variables_of old.nodes ≤ length (variable_values old.picture input places)
 enough_values world old input places sound = (let many = many_values world old input places sound in omega (arith, many))

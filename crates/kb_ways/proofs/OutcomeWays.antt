@@ -6,9 +6,7 @@ use Rattle.std.proofs.lemmas.Bool.{ltb-true, ltb-false}
 use Rattle.std.proofs.lemmas.Option.{slice_get_within}
 use Rattle.kb_blast.specs.Meaning.{AreMetInPool}
 use Rattle.kb_class.specs.declared.ids.MethodId.{MethodId}
-use Rattle.kb_class.specs.declared.members.MethodCode.{MethodCode}
 use Rattle.kb_class.specs.Naming.{Has}
-use Rattle.kb_code.specs.declared.listing.Handler.{Handler}
 use Rattle.kb_heap.specs.declared.bounds.Bound.TheVariants.{Loops, Depth}
 use Rattle.kb_heap.specs.declared.bounds.Bounds.{Bounds}
 use Rattle.kb_heap.specs.declared.ending.Ending.TheVariants.{Returned as RunReturned, Threw as RunThrew, IllTyped as RunIllTyped}
@@ -16,7 +14,7 @@ use Rattle.kb_heap.specs.declared.heap.Heap.{Heap}
 use Rattle.kb_heap.specs.declared.heap.Input.{Input}
 use Rattle.kb_heap.specs.declared.heap.Object.{Object}
 use Rattle.kb_heap.specs.declared.heap.Value.{Value}
-use Rattle.kb_heap.specs.declared.heap.Value.TheVariants.{Int as IntValue}
+use Rattle.kb_heap.specs.declared.heap.Value.TheVariants.{Int as IntValue, Ref}
 use Rattle.kb_heap.specs.Heap.{object_at, value_at, with_object, literal}
 use Rattle.kb_classes.specs.World.{World}
 use Rattle.kb_classes.specs.declared.slots.FieldSlot.{FieldSlot}
@@ -24,22 +22,22 @@ use Rattle.kb_names.specs.declared.types.ExactType.{ExactType}
 use Rattle.kb_names.specs.declared.types.ExactType.TheVariants as exact
 use Rattle.kb_names.specs.declared.types.JType.{JType}
 use Rattle.kb_names.specs.declared.types.JType.TheVariants as types
-use Rattle.kb_semantics.specs.Config.{Setting, Config, Frame, Outcome, behind, class_number, code_of, first_frame, has_room, max_locals_of, place_in_code, Goes as StepGoes, Ends as StepEnds}
+use Rattle.kb_semantics.specs.Config.{Setting, Config, Frame, Outcome, behind, first_frame, has_room, max_locals_of, place_in_code, Goes as StepGoes, Ends as StepEnds}
 use Rattle.kb_semantics.specs.Looks.{Slot, stores}
 use Rattle.kb_semantics.specs.Step.{config_at, first_heap, next_config, step}
+use Rattle.kb_semantics.specs.Instructions.{new_array}
 use Rattle.kb_semantics.specs.Values.{default_of, new_object, slots_of_class}
-use Rattle.kb_semantics.specs.Ways.{counted, enters, goes_on, goes_to, handler_among, handler_at, hands_over, hands_to, lands, nearest_handler, past, pushed, standpoint, throws, throws_in, ill_typed as ill_typed_step, carries_out as carries_out_step}
+use Rattle.kb_semantics.specs.Ways.{Standpoint, counted, enters, goes_on, goes_to, hands_over, hands_to, lands as lands_step, nearest_handler, past, pushed, standpoint, throws, throws_in, throws_object, ill_typed as ill_typed_step, carries_out as carries_out_step}
 use Rattle.kb_terms.specs.declared.node.TermId.{TermId}
 use Rattle.kb_terms.specs.declared.node.Node.{Node}
 use Rattle.kb_terms.specs.declared.node.Node.TheVariants.{Const}
 use Rattle.kb_terms.specs.Terms.{Extends, interned}
 use Rattle.kb_terms.proofs.Entries.{slice_get-append-left}
 use Rattle.kb_terms.proofs.Values.{Extends-trans}
-use Rattle.kb_picture.specs.declared.path.Out.TheVariants as outs
 use Rattle.kb_picture.specs.declared.path.SymEnding.{SymEnding}
 use Rattle.kb_picture.specs.declared.path.SymEnding.TheVariants.{Returned, Threw, IllTyped}
 use Rattle.kb_picture.specs.declared.picture.PlaceLists.{PlaceLists}
-use Rattle.kb_picture.specs.Endings.{Reading, ending_at, out_value}
+use Rattle.kb_picture.specs.Endings.{Reading, ending_at, number_of, out_value}
 use Rattle.kb_picture.specs.Instances.{variable_values}
 use Rattle.kb_picture.specs.Places.{places_of}
 use Rattle.kb_picture.specs.Shapes.{IsNoPlace}
@@ -53,23 +51,22 @@ use Rattle.kb_frames.specs.declared.value.Cell.{Cell}
 use Rattle.kb_frames.specs.declared.value.Outcome.TheVariants.{Goes as OutcomeGoes, Ends, Cut}
 use Rattle.kb_frames.specs.declared.value.SymValue.{SymValue}
 use Rattle.kb_frames.specs.declared.value.SymValue.TheVariants.{Int}
-use Rattle.kb_frames.specs.Calls.{back_to, called, left}
+use Rattle.kb_frames.specs.Calls.{back_to, called, landed, left}
 use Rattle.kb_frames.specs.Cuts.{setting_of}
-use Rattle.kb_frames.specs.Lent.{begun_frame, carried_on}
-use Rattle.kb_frames.specs.Making.{default_sym, new_sym_object, with_made}
+use Rattle.kb_frames.specs.Lent.{begun_frame, carried_on, on_frame}
+use Rattle.kb_frames.specs.Making.{default_sym, new_sym_array, new_sym_object, with_array, with_made, with_new}
 use Rattle.kb_frames.specs.StandsFor.{FrameStandsFor, FramesStandFor, HeapStandsFor, IsInstanceOf, IsKept, IsLike, StandsFor, beginning_of, made_at, out_of, reading_at, value_of_sym, values_of_sym, written_by}
 use Rattle.kb_frames.specs.State.{State, cell_at}
-use Rattle.kb_frames.specs.States.{Each}
-use Rattle.kb_ways.specs.Reached.{HasNoHandlers, HaveNoHandlers}
+use Rattle.kb_frames.specs.States.{Each, IsFrame, IsStage}
 use Rattle.kb_ways.specs.Simulation.{IsOutcome}
-use Rattle.kb_ways.specs.Ways.{Take, Way, Goes, Jumps, Enters, Leaves, Throws, Fails, carries_out, entered, ill_typed, resumes, returned, returned_to, went, with_result}
+use Rattle.kb_ways.specs.Ways.{ObjectThere, OfClass, OfPicture, OfRun, Take, There, Thrown, Way, Goes, Jumps, Enters, Leaves, Throws, ThrowsThere, Fails, carries_out, caught, ends, entered, ill_typed, kind_thrown, lands, object_value, resumes, returned, returned_to, stands_at, thrown, uncaught, value_thrown, went, with_result, with_thrown}
 use Rattle.kb_ways.proofs.GrowLaws.{interned_extends}
 use Rattle.kb_ways.proofs.OneInstances.{same_variables}
-use Rattle.kb_ways.proofs.LocalLaws.{led_to}
-use Rattle.kb_frames.proofs.ItemLaws.{each_cons, each_rest}
+use Rattle.kb_ways.proofs.LocalLaws.{led_to, object_place}
+use Rattle.kb_frames.proofs.ItemLaws.{each_cons, each_drop, each_rest}
 use Rattle.kb_frames.proofs.MoreLaws.{cells_sound}
 use Rattle.kb_ways.proofs.OutcomeStands.{first_ones}
-use Rattle.kb_ways.proofs.OutcomeValues.{IsLater, cell_later, heap_later, objects_later, reading_int, reading_later}
+use Rattle.kb_ways.proofs.OutcomeValues.{IsLater, cell_later, frame_later, frames_later, heap_later, objects_later, reading_int, reading_later}
 use Rattle.kb_ways.proofs.PastLaws.{runs_past}
 use Rattle.kb_ways.proofs.SoundLaws.{Sound}
 use Rattle.kb_ways.proofs.ValueLaws.{constant_made}
@@ -118,17 +115,25 @@ like_itself (Some object) = (refl, refl)
 
 -- ---- a default value
 
+default_is : (r : Reading) (term : TermId) (kind : JType) → value_of_sym r (Int term) ≡ IntValue (pos 0) → default_of kind ≡ value_of_sym r (default_sym term kind)
+default_is r term (types.Class name) e = refl
+default_is r term (types.Array component) e = refl
+default_is r term _ e = sym e
+
 defaults_are : (r : Reading) (term : TermId) (slots : List FieldSlot) → value_of_sym r (Int term) ≡ IntValue (pos 0)
     → map (λ (slot : FieldSlot). default_of slot.kind) slots ≡ values_of_sym r (map (λ (slot : FieldSlot). default_sym term slot.kind) slots)
 defaults_are r term [] e = refl
 defaults_are r term (slot ∷ slots) e =
-    ap (λ (v : Value). v ∷ map (λ (slot : FieldSlot). default_of slot.kind) slots) (one slot.kind)
+    ap (λ (v : Value). v ∷ map (λ (slot : FieldSlot). default_of slot.kind) slots) (default_is r term slot.kind e)
     ∙ ap (λ (l : List Value). value_of_sym r (default_sym term slot.kind) ∷ l) (defaults_are r term slots e)
-  where
-    one : (kind : JType) → default_of kind ≡ value_of_sym r (default_sym term kind)
-    one (types.Class name) = refl
-    one (types.Array component) = refl
-    one _ = sym e
+
+-- so many of a component
+elements_are : (r : Reading) (term : TermId) (component : JType) (count : ℕ) → value_of_sym r (Int term) ≡ IntValue (pos 0)
+    → replicate count (default_of component) ≡ values_of_sym r (replicate count (default_sym term component))
+elements_are r term component zero e = refl
+elements_are r term component (suc count) e =
+    ap (λ (v : Value). v ∷ replicate count (default_of component)) (default_is r term component e)
+    ∙ ap (λ (l : List Value). value_of_sym r (default_sym term component) ∷ l) (elements_are r term component count e)
 
 -- ---- frames
 
@@ -139,26 +144,22 @@ as_many_frames r [] (frame ∷ frames) stand = absurd stand
 as_many_frames r (symbolic ∷ others) [] stand = absurd stand
 as_many_frames r (symbolic ∷ others) (frame ∷ frames) stand = ap suc (as_many_frames r others frames stand.1)
 
--- ---- no handler
+-- they stand at the same places
+same_points : (r : Reading) (symbolic : List SymFrame) (frames : List Frame) → FramesStandFor r symbolic frames → map standpoint frames ≡ map stands_at symbolic
+same_points r [] [] stand = refl
+same_points r [] (frame ∷ frames) stand = absurd stand
+same_points r (symbolic ∷ others) [] stand = absurd stand
+same_points r (symbolic ∷ others) (frame ∷ frames) stand =
+    ap (λ (m : MethodId). (m, frame.at) ∷ map standpoint frames) stand.0.method ∙ ap (λ (at : ℕ). (symbolic.method, at) ∷ map standpoint frames) stand.0.at
+    ∙ ap (λ (l : List Standpoint). (symbolic.method, symbolic.at) ∷ l) (same_points r others frames stand.1)
 
-no_handler : (world : World) (method : MethodId) (at : ℕ) (kind : ExactType) → HasNoHandlers world method → handler_at world method at kind ≡ None
-no_handler world method at kind none = go (code_of world method) none where
-  go : (code : Option MethodCode) → option_map_or (λ (code : MethodCode). code.handlers) code [] ≡ [] → option_and_then (λ (code : MethodCode). handler_among world (class_number world method) at kind code.handlers) code ≡ None
-  go None e = refl
-  go (Some code) e = ap (λ (hs : List Handler). handler_among world (class_number world method) at kind hs) e
-
--- nor is there one on the way from these frames
-no_handlers : (world : World) (kind : ExactType) (r : Reading) (symbolic : List SymFrame) (frames : List Frame) → FramesStandFor r symbolic frames
-    → Each (λ (frame : SymFrame). HasNoHandlers world frame.method) symbolic → nearest_handler world kind (map standpoint frames) ≡ None
-unfolding nearest_handler
-no_handlers world kind r [] [] stand none = refl
-no_handlers world kind r [] (frame ∷ frames) stand none = absurd stand
-no_handlers world kind r (symbolic ∷ others) [] stand none = absurd stand
-no_handlers world kind r (symbolic ∷ others) (frame ∷ frames) stand none =
-    ap (λ (h : Option ℕ). option_map_or (λ target. Some (0, target)) h (option_map (λ (found : ℕ × ℕ). (suc found.0, found.1)) (nearest_handler world kind (map standpoint frames))))
-    (ap (λ (m : MethodId). handler_at world m frame.at kind) stand.0.method ∙ no_handler world symbolic.method frame.at kind (none 0 symbolic refl))
-    ∙ ap (option_map (λ (found : ℕ × ℕ). (suc found.0, found.1)))
-    (no_handlers world kind r others frames stand.1 (each_rest (λ (frame : SymFrame). HasNoHandlers world frame.method) symbolic others none))
+-- and so do those that are left behind the first ones
+stand_dropped : (r : Reading) (n : ℕ) (symbolic : List SymFrame) (frames : List Frame) → FramesStandFor r symbolic frames → FramesStandFor r (drop n symbolic) (drop n frames)
+stand_dropped r zero symbolic frames stand = stand
+stand_dropped r (suc n) [] [] stand = tt
+stand_dropped r (suc n) [] (frame ∷ frames) stand = absurd stand
+stand_dropped r (suc n) (symbolic ∷ others) [] stand = absurd stand
+stand_dropped r (suc n) (symbolic ∷ others) (frame ∷ frames) stand = stand_dropped r n others frames stand.1
 
 -- ---- ways
 
@@ -172,7 +173,7 @@ module _ (world : World) (bounds : Bounds) (old : State) (input : Input) (c : Co
   start = beginning_of world old input
 
   abbrev written_state : State
-  written_state = record old { stage = Runs symbolic others; nodes = nodes; when = when; carried = old.carried + 1; cells = cells; made = made }
+  written_state = record old { stage = Runs symbolic others; nodes = nodes; when = when; carried = old.carried + 1; cells = cells; made = made; chosen = None }
 
   abbrev behind_r : Reading
   behind_r = reading_at world written_state input stands.instance_of.shape.places
@@ -208,11 +209,12 @@ module _ (world : World) (bounds : Bounds) (old : State) (input : Input) (c : Co
         (λ has. (kept slot inside).0 (subst (λ (l : List Slot). Has l slot) written_more has)),
         (λ k. subst (λ (l : List Slot). Has l slot) (sym written_more) ((kept slot inside).1 k)),
       );
+      chosen = tt;
     },
   )
 
 module _ (world : World) (bounds : Bounds) (old : State) (sound : Sound world old) (input : Input) (c : Config) (stands : StandsFor (setting_of world bounds) old input c)
-    (frame : SymFrame) (callers : List SymFrame) (unhandled : HaveNoHandlers world old.method (Runs frame callers)) (next : ℕ)
+    (frame : SymFrame) (callers : List SymFrame) (named : IsStage world old (Runs frame callers)) (next : ℕ)
     (nodes : List Node) (more : Extends old.nodes nodes) (when : List (TermId × Bool))
     (framed : FrameStandsFor (reading_at world (record old { stage = Runs frame callers; nodes = nodes; when = when }) input stands.instance_of.shape.places) frame c.frame)
     (waiting : FramesStandFor (reading_at world (record old { stage = Runs frame callers; nodes = nodes; when = when }) input stands.instance_of.shape.places) callers c.callers) where
@@ -259,7 +261,7 @@ module _ (world : World) (bounds : Bounds) (old : State) (sound : Sound world ol
       ends_so (IllTyped (place_in_code world frame.method frame.at)) i
       (e ∙ ap (λ (m : MethodId). ill_typed_at m c.frame.at) framed.method ∙ ap (λ (at : ℕ). ill_typed_at frame.method at) framed.at)
 
-  -- ---- it throws
+  -- ---- an object is made
 
   abbrev inputs : ℕ
   inputs = length input.heap.objects
@@ -288,42 +290,37 @@ module _ (world : World) (bounds : Bounds) (old : State) (sound : Sound world ol
       let many = ap length stands.heap.made in
       omega (arith, many, heap_there, length-drop (inputs + literals) c.heap.objects, length-map old.made (made_at (reading_at world old input places)))
 
-  module _ (class : List ℕ) where
-    abbrev nought : List Node × TermId
-    nought = interned nodes (Const (pos 0))
+  abbrev nought : List Node × TermId
+  nought = interned nodes (Const (pos 0))
 
-    abbrev made : State
-    made = with_made world state class
+  module _ (symbolic : TermId → SymObject) (real : Object) where
+    abbrev with_it : State
+    with_it = with_new symbolic state
 
     abbrev pub r' : Reading
-    r' = reading_at world made input places
+    r' = reading_at world with_it input places
 
     abbrev pub new_heap : Heap
-    new_heap = with_object c.heap (new_object world class)
+    new_heap = with_object c.heap real
 
     made_later : IsLater (reading_at world old input places) r' old.nodes
-    made_later = reading_later world old made input places refl (Extends-trans old.nodes nodes nought.0 more (interned_extends nodes (Const (pos 0))))
+    made_later = reading_later world old with_it input places refl (Extends-trans old.nodes nodes nought.0 more (interned_extends nodes (Const (pos 0))))
 
     zero_value : value_of_sym r' (Int nought.1) ≡ IntValue (pos 0)
-    zero_value = reading_int world made input places nought.1 ∙ ap IntValue (constant_made nodes (pos 0) (variable_values old.picture input places.objects))
-
-    object_is : new_object world class ≡ made_at r' (new_sym_object world class nought.1)
-    object_is = ap (λ (vs : List Value). record { kind = exact.Class class; values = vs }) (defaults_are r' nought.1 (slots_of_class world class) zero_value)
+    zero_value = reading_int world with_it input places nought.1 ∙ ap IntValue (constant_made nodes (pos 0) (variable_values old.picture input places.objects))
 
     pub same_object : (object : ℕ) → object < inputs + literals → object_at new_heap object ≡ object_at c.heap object
-    same_object object below = slice_get-append-left c.heap.objects (new_object world class ∷ []) object (omega (arith, below, heap_there))
+    same_object object below = slice_get-append-left c.heap.objects (real ∷ []) object (omega (arith, below, heap_there))
 
-    heap_stands : HeapStandsFor (reading_at world old input places) old first c.heap
-    heap_stands = stands.heap
-
-    pub made_heap : HeapStandsFor r' made first new_heap
+    -- where the object is the one that is made
+    object_heap : real ≡ made_at r' (symbolic nought.1) → HeapStandsFor r' with_it first new_heap
     unfolding reading_at
-    made_heap = record {
+    object_heap is = record {
       made =
-          drop-append-le (inputs + literals) c.heap.objects (new_object world class ∷ []) heap_there
-          ∙ ap (λ (l : List Object). l ++ new_object world class ∷ []) (stands.heap.made ∙ sym (objects_later world old (reading_at world old input places) r' made_later old.made sound.made))
-          ∙ ap (λ (o : Object). map (made_at r') old.made ++ o ∷ []) object_is
-          ∙ sym (map-append (made_at r') old.made (new_sym_object world class nought.1 ∷ []));
+          drop-append-le (inputs + literals) c.heap.objects (real ∷ []) heap_there
+          ∙ ap (λ (l : List Object). l ++ real ∷ []) (stands.heap.made ∙ sym (objects_later world old (reading_at world old input places) r' made_later old.made sound.made))
+          ∙ ap (λ (o : Object). map (made_at r') old.made ++ o ∷ []) is
+          ∙ sym (map-append (made_at r') old.made (symbolic nought.1 ∷ []));
       like = λ object inside. subst (λ (o : Option Object). IsLike o (object_at first object)) (sym (same_object object (omega (arith, inside)))) (stands.heap.like object inside);
       cells = λ object slot place at.
           ap (option_and_then (λ (of : Object). slice_get of.values slot)) (same_object place (omega (arith, below_at inputs places.objects object place (all_below old.picture input stands.instance_of.shape) at)))
@@ -335,18 +332,20 @@ module _ (world : World) (bounds : Bounds) (old : State) (sound : Sound world ol
       others = λ object inside none. same_object object inside ∙ stands.heap.others object inside none;
     }
 
-    throws_step : throws s c class ≡ StepEnds (record { ending = ending_at r' (Threw (outs.New (length old.made))); heap = new_heap })
-    unfolding throws throws_in reading_at
-    throws_step =
-        let none : nearest_handler world (exact.Class class) (map standpoint (c.frame ∷ c.callers)) ≡ None =
-        no_handlers world (exact.Class class) r (frame ∷ callers) (c.frame ∷ c.callers) (framed, waiting)
-        (each_cons (λ (f : SymFrame). HasNoHandlers world f.method) frame callers unhandled.0 unhandled.1) in
-        ap (λ (h : Option (ℕ × ℕ)). option_map_or (λ (found : ℕ × ℕ). lands s c new_heap (length c.heap.objects) found.1 (drop found.0 (c.frame ∷ c.callers))) h
-        (StepEnds (record { ending = RunThrew (length c.heap.objects); heap = new_heap }))) none
-        ∙ ap (λ (n : ℕ). StepEnds (record { ending = RunThrew n; heap = new_heap })) heap_length
+  -- one of a class
+  pub made_heap : (class : List ℕ) → HeapStandsFor (r' (new_sym_object world class) (new_object world class)) (with_made world state class) first (with_object c.heap (new_object world class))
+  made_heap class =
+      object_heap (new_sym_object world class) (new_object world class)
+      (ap (λ (vs : List Value). record { kind = exact.Class class; values = vs })
+      (defaults_are (r' (new_sym_object world class) (new_object world class)) nought.1 (slots_of_class world class) (zero_value (new_sym_object world class) (new_object world class))))
 
-    pub throws_is : step s c ≡ throws s c class → (i : IsInstanceOf made input) → IsOutcome world bounds c made input i (Ends (Threw (outs.New (length old.made))))
-    throws_is e i = ends_stands made (Threw (outs.New (length old.made))) new_heap refl i (e ∙ throws_step) made_heap
+  -- an array of so many elements
+  pub array_heap : (component : JType) (count : ℕ)
+      → HeapStandsFor (r' (new_sym_array component count) (new_array component count)) (with_array state component count) first (with_object c.heap (new_array component count))
+  array_heap component count =
+      object_heap (new_sym_array component count) (new_array component count)
+      (ap (λ (vs : List Value). record { kind = exact.Array component; values = vs })
+      (elements_are (r' (new_sym_array component count) (new_array component count)) nought.1 component count (zero_value (new_sym_array component count) (new_array component count))))
 
   -- ---- it goes on
 
@@ -359,7 +358,7 @@ module _ (world : World) (bounds : Bounds) (old : State) (sound : Sound world ol
   -- where nothing is written
   module _ (plain : stores s c ≡ []) where
     abbrev after : SymFrame → List SymFrame → State
-    after symbolic others = record old { stage = Runs symbolic others; nodes = nodes; when = when; carried = old.carried + 1 }
+    after symbolic others = record old { stage = Runs symbolic others; nodes = nodes; when = when; carried = old.carried + 1; chosen = None }
 
     goes_stands : (symbolic : SymFrame) (others : List SymFrame) (behind : Frame) (frames : List Frame) → FrameStandsFor r symbolic behind → FramesStandFor r others frames
         → step s c ≡ StepGoes (record { frame = behind; callers = frames; heap = c.heap; inputs = c.inputs; carried = c.carried + 1 })
@@ -486,11 +485,143 @@ module _ (world : World) (bounds : Bounds) (old : State) (sound : Sound world ol
           (e ∙ ap (λ (b : Bool). if b then carries_out_step c (resumed to value) frames c.heap else ill_typed_step s c) (room_there value caller to stand.0))
         where
           by_room : (b : Bool) → step s c ≡ (if b then carries_out_step c (resumed to value) frames c.heap else ill_typed_step s c)
-              → Follows (if b then carries_out (left state) (resumes world value) else ill_typed world state)
+              → Follows (if b then carries_out (left 1 state) (resumes world value) else ill_typed world state)
           by_room true e =
-              subst (λ (cs : List SymFrame). Follows (carries_out (record state { stage = back_to frame cs }) (resumes world value))) (sym is)
+              subst (λ (cs : List SymFrame). Follows (carries_out (record state { stage = back_to (Runs frame callers) cs }) (resumes world value))) (sym is)
               (goes_stands (resumes world value caller) more (resumed to value) frames (resumed_stands value caller to stand.0) stand.1 e)
           by_room false e = ill_typed_is e
+
+    -- ---- it throws
+
+    -- what is thrown is the object o of the heap, and the state that has it has more terms and objects at most
+    module _ (it : Thrown) (heap : Heap) (o : ℕ) (more_nodes : List Node) (more_made : List SymObject) (grown : Extends old.nodes more_nodes)
+        (is : with_thrown world state it ≡ record state { nodes = more_nodes; made = more_made })
+        (value_is : value_of_sym (reading_at world (record state { nodes = more_nodes; made = more_made }) input places) (value_thrown state it) ≡ Ref o)
+        (stood : HeapStandsFor (reading_at world (record state { nodes = more_nodes; made = more_made }) input places) (record state { nodes = more_nodes; made = more_made }) first heap) where
+      abbrev has_it : State
+      has_it = record state { nodes = more_nodes; made = more_made }
+
+      abbrev r'' : Reading
+      r'' = reading_at world has_it input places
+
+      -- from the terms that are there to those of the object
+      on_later : IsLater r r'' old.nodes
+      unfolding reading_at
+      on_later = record {
+        places = refl;
+        inputs = refl;
+        literals = refl;
+        terms = λ t there. (reading_later world old has_it input places refl grown).terms t there ∙ sym (later.terms t there);
+      }
+
+      abbrev value : SymValue
+      value = value_thrown state it
+
+      abbrev lands_in : ℕ → ℕ → SymFrame → SymFrame
+      lands_in target n symbolic = record symbolic { at = target; stack = value ∷ []; transfers = n }
+
+      abbrev behind_landing : ℕ → ℕ → SymFrame → List SymFrame → State
+      behind_landing target n symbolic others = record has_it { stage = Runs (lands_in target n symbolic) others; carried = old.carried + 1; chosen = None }
+
+      abbrev behind_frame : ℕ → ℕ → Frame → Frame
+      behind_frame target n to = record to { at = target; stack = Ref o ∷ []; transfers = n }
+
+      landing_stands : (target n : ℕ) (symbolic : SymFrame) (others : List SymFrame) (to : Frame) (frames : List Frame) → FrameStandsFor r'' symbolic to → FramesStandFor r'' others frames
+          → step s c ≡ carries_out_step c (behind_frame target n to) frames heap
+          → (i : IsInstanceOf (behind_landing target n symbolic others) input) → IsOutcome world bounds c (behind_landing target n symbolic others) input i OutcomeGoes
+      unfolding reading_at
+      landing_stands target n symbolic others to frames stand waits e i =
+          writes_stand world bounds old input c stands more_nodes when (lands_in target n symbolic) others (behind_frame target n to) frames old.cells more_made heap
+          (record { method = stand.method; at = refl; locals = stand.locals; stack = ap (λ (v : Value). v ∷ []) (sym value_is); transfers = refl }) waits
+          (record { made = stood.made; like = stood.like; cells = stood.cells; kept = stood.kept; others = stood.others })
+          (λ slot inside. (
+            (λ has. (let k = (stands.written slot inside).0 (subst (λ (l : List Slot). Has l slot) same has) in
+                record { object = k.object; place = k.place; value = k.value; cell = k.cell })),
+            (λ k. subst (λ (l : List Slot). Has l slot) (sym same) ((stands.written slot inside).1 (record { object = k.object; place = k.place; value = k.value; cell = k.cell }))),
+          ))
+          e i
+        where
+          before : List Slot
+          before = written_by s old.carried (beginning_of world old input)
+
+          same : before ++ stores s c ≡ before
+          same = ap (λ (l : List Slot). before ++ l) plain ∙ append-nil before
+
+      -- a frame takes it
+      caught_is : (count target n : ℕ) (symbolic : SymFrame) (others : List SymFrame) (to : Frame) (frames : List Frame) → drop count (frame ∷ callers) ≡ symbolic ∷ others
+          → FrameStandsFor r'' symbolic to → FramesStandFor r'' others frames → step s c ≡ carries_out_step c (behind_frame target n to) frames heap
+          → Follows (caught world state it count target n)
+      caught_is count target n symbolic others to frames dropped stand waits e =
+          subst (λ (st : State). Follows (carries_out (landed count value n st) (λ (f : SymFrame). record f { at = target }))) (sym is)
+          (subst (λ (fs : List SymFrame). Follows (carries_out (on_frame (λ (f : SymFrame). record f { stack = value ∷ []; transfers = n }) (record has_it { stage = back_to (Runs frame callers) fs }))
+          (λ (f : SymFrame). record f { at = target }))) (sym dropped)
+          (landing_stands target n symbolic others to frames stand waits e))
+
+      -- where it may
+      lands_is : (count target : ℕ) (symbolic : List SymFrame) (frames : List Frame) → drop count (frame ∷ callers) ≡ symbolic → FramesStandFor r symbolic frames → Each (IsFrame world old) symbolic
+          → step s c ≡ lands_step s c heap o target frames → Follows (lands world bounds state it count target symbolic)
+      unfolding goes_to
+      lands_is count target [] [] dropped stand each e = ill_typed_is e
+      lands_is count target [] (to ∷ frames) dropped stand each e = absurd stand
+      lands_is count target (symbolic ∷ others) [] dropped stand each e = absurd stand
+      lands_is count target (symbolic ∷ others) (to ∷ frames) dropped stand each e =
+          by_room (has_room world symbolic.method 1) (e ∙ ap (λ (m : MethodId). if has_room world m 1 then takes (counted bounds.run to.at target to.transfers) else ill_typed_step s c) stand.0.method)
+        where
+          takes : Option ℕ → Outcome
+          takes n = option_map_or (λ transfers. carries_out_step c (behind_frame target transfers to) frames heap) n (past c Loops)
+
+          same_count : counted bounds.run to.at target to.transfers ≡ counted bounds.run symbolic.at target symbolic.transfers
+          same_count = ap (λ (at : ℕ). counted bounds.run at target to.transfers) stand.0.at ∙ ap (λ (n : ℕ). counted bounds.run symbolic.at target n) stand.0.transfers
+
+          by_count : (n : Option ℕ) → step s c ≡ takes n → Follows (option_map_or (caught world state it count target) n (record { state = state; outcome = Cut Loops }))
+          by_count None e = λ i. runs_past s old input c Loops stands e
+          by_count (Some n) e =
+              caught_is count target n symbolic others to frames dropped (frame_later world old r r'' on_later symbolic to (each 0 symbolic refl) stand.0)
+              (frames_later world old r r'' on_later others frames (each_rest (IsFrame world old) symbolic others each) stand.1) e
+
+          by_room : (b : Bool) → step s c ≡ (if b then takes (counted bounds.run to.at target to.transfers) else ill_typed_step s c)
+              → Follows (if b then option_map_or (caught world state it count target) (counted bounds.run symbolic.at target symbolic.transfers) (record { state = state; outcome = Cut Loops }) else ill_typed world state)
+          by_room true e = by_count (counted bounds.run symbolic.at target symbolic.transfers) (e ∙ ap takes same_count)
+          by_room false e = ill_typed_is e
+
+      uncaught_is : step s c ≡ StepEnds (record { ending = RunThrew o; heap = heap }) → Follows (uncaught world state it)
+      uncaught_is e =
+          subst (λ (st : State). Follows (ends st (Threw (out_of value)))) (sym is)
+          (λ i. ends_stands has_it (Threw (out_of value)) heap refl i (e ∙ ap (λ (v : Value). StepEnds (record { ending = RunThrew (number_of v); heap = heap })) (sym value_is)) stood)
+
+      -- Where the state stands for c, it goes where the machine's way goes.
+      thrown_is : step s c ≡ throws_in s c heap o (kind_thrown it) → Follows (thrown world bounds state it)
+      unfolding throws_in thrown
+      thrown_is e =
+          go (nearest_handler world (kind_thrown it) (map stands_at (frame ∷ callers)))
+          (e ∙ ap (λ (points : List Standpoint). leads (nearest_handler world (kind_thrown it) points)) (same_points r (frame ∷ callers) (c.frame ∷ c.callers) (framed, waiting)))
+        where
+          leads : Option (ℕ × ℕ) → Outcome
+          leads found = option_map_or (λ (f : ℕ × ℕ). lands_step s c heap o f.1 (drop f.0 (c.frame ∷ c.callers))) found (StepEnds (record { ending = RunThrew o; heap = heap }))
+
+          go : (found : Option (ℕ × ℕ)) → step s c ≡ leads found
+              → Follows (option_map_or (λ (f : ℕ × ℕ). lands world bounds state it f.0 f.1 (drop f.0 (frame ∷ callers))) found (uncaught world state it))
+          go None e = uncaught_is e
+          go (Some f) e =
+              lands_is f.0 f.1 (drop f.0 (frame ∷ callers)) (drop f.0 (c.frame ∷ c.callers)) refl (stand_dropped r f.0 (frame ∷ callers) (c.frame ∷ c.callers) (framed, waiting))
+              (each_drop (IsFrame world old) f.0 (frame ∷ callers) (each_cons (IsFrame world old) frame callers named.0 named.1)) e
+
+    -- a new object
+    pub throws_is : (class : List ℕ) → step s c ≡ throws s c class → Follows (thrown world bounds state (OfClass class))
+    unfolding throws reading_at
+    throws_is class e =
+        thrown_is (OfClass class) (with_object c.heap (new_object world class)) (length c.heap.objects) nought.0 (old.made ++ new_sym_object world class nought.1 ∷ [])
+        (Extends-trans old.nodes nodes nought.0 more (interned_extends nodes (Const (pos 0)))) refl (ap Ref (sym heap_length)) (made_heap class) e
+
+    -- one that is there
+    object_named : (object : ObjectThere) → value_of_sym r (object_value object) ≡ Ref (object_place r object)
+    object_named (OfPicture number) = refl
+    object_named (OfRun number) = refl
+
+    pub throws_there_is : (object : ObjectThere) (kind : ExactType) → step s c ≡ throws_object s c (object_place r object) kind → Follows (thrown world bounds state (There object kind))
+    throws_there_is object kind e =
+        thrown_is (There object kind) c.heap (object_place r object) nodes old.made more refl (object_named object)
+        (heap_later world old state (reading_at world old input places) r first c.heap later sound.cells sound.made refl refl stands.heap) e
 
     -- ---- all of them
 
@@ -500,4 +631,5 @@ module _ (world : World) (bounds : Bounds) (old : State) (sound : Sound world ol
     went_is (Enters method arguments rest) e = entered_is method arguments rest e
     went_is (Leaves value) e = returned_is value e
     went_is (Throws class) e = throws_is class e
+    went_is (ThrowsThere object kind) e = throws_there_is object kind e
     went_is Fails e = ill_typed_is e

@@ -12,7 +12,7 @@ use Rattle.kb_frames.specs.State.{State}
 use Rattle.kb_ways.specs.declared.condition.Condition.{Condition}
 use Rattle.kb_ways.specs.declared.condition.Side.{Side}
 use Rattle.kb_ways.specs.declared.condition.Side.TheVariants.{Term, Number}
-use Rattle.kb_ways.specs.Asked.{asked, branch_condition, equal_sides}
+use Rattle.kb_ways.specs.Asked.{asked, branch_condition, equal_sides, less_sides, unsigned_sides}
 use Rattle.kb_ways.specs.Needs.{AreSides, IsSide}
 use Rattle.kb_ways.proofs.GrowLaws.{asked_grows}
 
@@ -28,6 +28,16 @@ branch_sides nodes conds.Le a b so p q = record { left = q; right = p; binary = 
 pub key_sides : (nodes : List Node) (x : TermId) (z : ℤ) (so : Bool) → IsTerm nodes x → AreSides nodes (equal_sides (Term x) (Number z) so)
 key_sides nodes x z so is = record { left = is; right = tt; binary = refl }
 
+pub below_sides : (nodes : List Node) (x : TermId) (z : ℤ) (so : Bool) → IsTerm nodes x → AreSides nodes (unsigned_sides (Term x) (Number z) so)
+below_sides nodes x z so is = record { left = is; right = tt; binary = refl }
+
+pub negative_sides : (nodes : List Node) (x : TermId) (z : ℤ) (so : Bool) → IsTerm nodes x → AreSides nodes (less_sides (Term x) (Number z) so)
+negative_sides nodes x z so is = record { left = is; right = tt; binary = refl }
+
+-- a number and a term
+pub above_sides : (nodes : List Node) (x : TermId) (z : ℤ) (so : Bool) → IsTerm nodes x → AreSides nodes (less_sides (Number z) (Term x) so)
+above_sides nodes x z so is = record { left = tt; right = is; binary = refl }
+
 pub operands_there : (before nodes : List Node) (op : Op) (left right : TermId) → IsTerm before left → Extends before nodes → IsTerm nodes right → is_binary op ≡ true → AreOperands nodes op left (Some right)
 operands_there before nodes op left right first e second binary = record {
   first = IsTerm-extends before nodes left e first;
@@ -36,3 +46,7 @@ operands_there before nodes op left right first e second binary = record {
 
 pub asked_extends : (state : State) (c : Condition) → Extends state.nodes (asked state c).nodes
 asked_extends state c = (asked_grows state c).terms
+
+-- a term is there still where a condition was asked for
+pub term_asked : (state : State) (c : Condition) (x : TermId) → IsTerm state.nodes x → IsTerm (asked state c).nodes x
+term_asked state c x is = IsTerm-extends state.nodes (asked state c).nodes x (asked_extends state c) is

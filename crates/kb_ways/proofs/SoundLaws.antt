@@ -1,8 +1,9 @@
 -- What holds of a state that is reached holds of the state that a change leaves: of terms that are made and conditions that are
 -- added, of another frame, of an object that is made, of an argument that is read, and of the first frame. Its pool is left
 -- out, since no pool grows for ever.
-use Rattle.std.proofs.Common.{◌≡◌, ℕ, zero, suc, ◌+◌, ◌-◌, ◌<◌, ◌≤◌, inl, inr, pos, Bool, true, false, not, List, [], ◌∷◌, ◌++◌, length, map, replicate, Option, Some, None, slice_get, refl, sym, ap, subst, ◌∙◌, true≢false, is_some, if◌then◌else◌, arith, length-append}
+use Rattle.std.proofs.Common.{◌≡◌, ℕ, zero, suc, ◌+◌, ◌-◌, ◌<◌, ◌≤◌, ◌^◌, inl, inr, pos, Bool, true, false, not, List, [], ◌∷◌, ◌++◌, drop, length, map, replicate, Option, Some, None, slice_get, refl, sym, ap, subst, ◌∙◌, true≢false, is_some, if◌then◌else◌, arith, length-append}
 use Rattle.std.specs.List.{list_any}
+use Rattle.std.specs.Prelude.{IfSome}
 use Rattle.std.specs.Option.{option_map, option_map_or, option_and_then}
 use Rattle.std.proofs.lemmas.Bool.{and_parts, and_from}
 use Rattle.std.proofs.lemmas.List.{length-map, length-replicate, map-append}
@@ -52,10 +53,11 @@ use Rattle.kb_frames.specs.declared.value.Cell.{Cell}
 use Rattle.kb_frames.specs.declared.value.Cell.TheVariants.{Untouched, Read, Written}
 use Rattle.kb_frames.specs.declared.value.SymValue.{SymValue}
 use Rattle.kb_frames.specs.declared.value.SymValue.TheVariants.{Int, Null, Obj, Literal, New, Loc}
+use Rattle.kb_frames.specs.Arrays.{IsPlaceNext, array_next}
 use Rattle.kb_frames.specs.FirstReads.{with_read, first_int}
-use Rattle.kb_frames.specs.Calls.{called_stage, left_stage}
-use Rattle.kb_frames.specs.Lent.{begun, begun_frame, begun_stage, callers_of, read_count, with_frame, with_nodes}
-use Rattle.kb_frames.specs.Making.{default_sym, new_sym_object, with_made}
+use Rattle.kb_frames.specs.Calls.{back_to, called_stage, frames_of, landed, left_stage}
+use Rattle.kb_frames.specs.Lent.{begun, begun_frame, begun_stage, callers_of, on_frame, read_count, with_frame, with_nodes}
+use Rattle.kb_frames.specs.Making.{default_sym, new_sym_array, new_sym_object, with_array, with_made, with_new}
 use Rattle.kb_frames.specs.Next.{argument_next, instruction_next, is_int, is_int_next, method_now, next_is_int}
 use Rattle.kb_frames.specs.State.{State}
 use Rattle.kb_frames.specs.States.{AreCells, Each, IsBeginning, IsCell, IsFrame, IsLocal, IsMade, IsStage, IsSymValue, IsTouched}
@@ -63,11 +65,12 @@ use Rattle.kb_frames.specs.Truths.{truth_in}
 use Rattle.kb_ways.specs.declared.condition.Condition.{Condition}
 use Rattle.kb_ways.specs.Asked.{all_asked, asked, interned_condition, interned_side}
 use Rattle.kb_ways.specs.Reached.{HasNoneLeftOut, HasReadReceiver, IsReached, SwitchesRise}
-use Rattle.kb_ways.specs.Ways.{Take, carries_out, entered, resumes, returned, with_result}
+use Rattle.kb_ways.specs.Ways.{OfClass, Take, There, Thrown, carries_out, entered, object_value, resumes, returned, thrown, with_result}
 use Rattle.kb_ways.proofs.AskedLaws.{interned_is_term, interned_node, later_node, no_constant, not_folded}
-use Rattle.kb_ways.proofs.CallLaws.{entered_has, returned_has}
+use Rattle.kb_ways.proofs.CallLaws.{entered_has, returned_has, thrown_has}
 use Rattle.kb_ways.proofs.GrowLaws.{GoesOn, Grows, all_asked_grows, condition_goes_on, interned_goes_on}
-use Rattle.kb_frames.proofs.ItemLaws.{each_append, each_cons, each_copy, each_map, each_mapped, each_rest, no_items, none_passes}
+use Rattle.kb_frames.proofs.ChosenLaws.{begins_chosen, chosen_kept, keeps_same, made_pushed}
+use Rattle.kb_frames.proofs.ItemLaws.{each_append, each_cons, each_copy, each_drop, each_map, each_mapped, each_rest, no_items, none_passes}
 use Rattle.kb_ways.proofs.PictureLaws.{receiver_still, slots_are}
 use Rattle.kb_names.specs.declared.types.JType.TheVariants as types
 use Rattle.kb_picture.specs.declared.picture.Seen.TheVariants as seens
@@ -85,8 +88,9 @@ pub record Sound (world : World) (state : State) : Type 0 where
   pub receiver : HasReadReceiver world state.method state.stage state.picture
   pub parameters : HasNoneLeftOut world state.method
   pub keys : SwitchesRise world
+  pub chosen : IfSome state.chosen (IsPlaceNext world state)
 
-pub sound_reached : (world : World) (state : State) → IsReached world state → Sound world state
+abbrev pub sound_reached : (world : World) (state : State) → IsReached world state → Sound world state
 sound_reached world state h = record {
   typed = h.typed;
   found = h.sound.found;
@@ -98,6 +102,7 @@ sound_reached world state h = record {
   receiver = h.receiver;
   parameters = h.parameters;
   keys = h.keys;
+  chosen = h.sound.chosen;
 }
 
 pub reached_sound : (world : World) (state : State) → Sound world state → IsPool state.nodes → IsReached world state
@@ -113,6 +118,7 @@ reached_sound world state h pool = record {
     stage = h.stage;
     cells = h.cells;
     made = h.made;
+    chosen = h.chosen;
   };
   typed = h.typed;
   receiver = h.receiver;
@@ -169,7 +175,7 @@ module _ (world : World) (old new : State) (still : Still old new) where
   }
 
   pub made_still : (made : List SymObject) → Each (IsMade world old) made → Each (IsMade world new) made
-  made_still made each = λ i object at. let was = each i object at in record { count = was.count; values = values_still object.values was.values }
+  made_still made each = λ i object at. let was = each i object at in record { count = was.count; counted = was.counted; values = values_still object.values was.values }
 
 -- ---- conditions
 
@@ -255,6 +261,7 @@ module _ (world : World) (state : State) (nodes : List Node) (when : List (TermI
     receiver = sound.receiver;
     parameters = sound.parameters;
     keys = sound.keys;
+    chosen = chosen_kept state grown_state (keeps_same state grown_state refl refl) state.chosen (array_next world state.method state.stage) sound.chosen;
   }
 
 pub nodes_sound : (world : World) (state : State) (nodes : List Node) → GoesOn state.nodes nodes → Sound world state → Sound world (with_nodes state nodes)
@@ -293,7 +300,7 @@ module _ (world : World) (state : State) (frame : SymFrame) (callers : List SymF
   -- other frames
   module _ (current : SymFrame) (others : List SymFrame) (is : IsFrame world state current) (each : Each (IsFrame world state) others) where
     abbrev framed_state : State
-    framed_state = record state { stage = Runs current others; carried = state.carried + 1 }
+    framed_state = record state { stage = Runs current others; carried = state.carried + 1; chosen = None }
 
     framed_still : Still state framed_state
     framed_still = record { terms = Extends-refl state.nodes; objects = refl; locs = refl; made = omega arith }
@@ -310,19 +317,20 @@ module _ (world : World) (state : State) (frame : SymFrame) (callers : List SymF
       receiver = frame_receiver;
       parameters = sound.parameters;
       keys = sound.keys;
+      chosen = tt;
     }
 
   -- the current frame is another one
   pub carried_sound : (f : SymFrame → SymFrame) → IsFrame world state (f frame) → Sound world (carries_out state f).state
   carried_sound f is =
-      subst (λ (stage : Stage). Sound world (record state { stage = with_frame f stage; carried = state.carried + 1 })) (sym running) (framed_sound (f frame) callers is frame_sound.1)
+      subst (λ (stage : Stage). Sound world (record state { stage = with_frame f stage; carried = state.carried + 1; chosen = None })) (sym running) (framed_sound (f frame) callers is frame_sound.1)
 
   -- a method begins with these arguments, and this is left on the stack
   pub entered_sound : (bounds : Bounds) (method : MethodId) (arguments rest : List SymValue) → Each (IsSymValue world state) arguments → Each (IsSymValue world state) rest
       → Sound world (entered world bounds state method arguments rest).state
   entered_sound bounds method arguments rest given left =
       entered_has (λ (take : Take). Sound world take.state) world bounds state method arguments rest
-      (subst (λ (stage : Stage). Sound world (record state { stage = called_stage world method arguments rest stage; carried = state.carried + 1 })) (sym running)
+      (subst (λ (stage : Stage). Sound world (record state { stage = called_stage world method arguments rest stage; carried = state.carried + 1; chosen = None })) (sym running)
       (framed_sound (begun_frame world method arguments) (record frame { stack = rest } ∷ callers) (begun_is_frame world state method arguments given)
       (each_cons (IsFrame world state) (record frame { stack = rest }) callers (record { room = frame_sound.0.room; locals = frame_sound.0.locals; stack = left }) frame_sound.1)))
       sound
@@ -338,25 +346,39 @@ module _ (world : World) (state : State) (frame : SymFrame) (callers : List SymF
       (λ caller more waits. (let is : Runs frame callers ≡ Runs frame (caller ∷ more) = ap (Runs frame) (ap callers_of (sym running) ∙ waits) in
       let each : Each (IsFrame world state) (caller ∷ more) = subst (Each (IsFrame world state)) (ap callers_of (sym running) ∙ waits) frame_sound.1 in
       let first : IsFrame world state caller = each 0 caller refl in
-      subst (λ (stage : Stage). Sound world (record state { stage = with_frame (resumes world value) (left_stage stage); carried = state.carried + 1 })) (sym (running ∙ is))
+      subst (λ (stage : Stage). Sound world (record state { stage = with_frame (resumes world value) (left_stage 1 stage); carried = state.carried + 1; chosen = None })) (sym (running ∙ is))
       (framed_sound (resumes world value caller) more (record { room = first.room; locals = first.locals; stack = with_result_sound value caller.stack there first.stack })
       (each_rest (IsFrame world state) caller more each))))
       sound
 
+  -- so many frames are left, and the next one has nothing but a value that is there
+  pub landed_sound : (count target transfers : ℕ) (value : SymValue) → IsSymValue world state value → (current : SymFrame) (others : List SymFrame) → drop count (frame ∷ callers) ≡ current ∷ others
+      → Sound world (carries_out (landed count value transfers state) (λ (f : SymFrame). record f { at = target })).state
+  landed_sound count target transfers value there current others is =
+      let all : Each (IsFrame world state) (frame ∷ callers) = each_cons (IsFrame world state) frame callers frame_sound.0 frame_sound.1 in
+      let each : Each (IsFrame world state) (current ∷ others) = subst (Each (IsFrame world state)) is (each_drop (IsFrame world state) count (frame ∷ callers) all) in
+      let first : IsFrame world state current = each 0 current refl in
+      subst (λ (stage : Stage). Sound world (carries_out (landed count value transfers (record state { stage = stage })) (λ (f : SymFrame). record f { at = target })).state) (sym running)
+      (subst (λ (frames : List SymFrame). Sound world (carries_out (on_frame (λ (f : SymFrame). record f { stack = value ∷ []; transfers = transfers }) (record state { stage = back_to (Runs frame callers) frames }))
+      (λ (f : SymFrame). record f { at = target })).state) (sym is)
+      (framed_sound (record current { at = target; stack = value ∷ []; transfers = transfers }) others
+      (record { room = first.room; locals = first.locals; stack = each_cons (IsSymValue world state) value [] there (no_items (IsSymValue world state)) })
+      (each_rest (IsFrame world state) current others each)))
+
 -- ---- objects that are made
 
-module _ (world : World) (state : State) (class : List ℕ) (sound : Sound world state) where
+module _ (world : World) (state : State) (object : TermId → SymObject) (sound : Sound world state) where
   abbrev zero_made : List Node × TermId
   zero_made = interned state.nodes (Const (pos 0))
 
   abbrev made_state : State
-  made_state = with_made world state class
+  made_state = with_new object state
 
   zero_on : GoesOn state.nodes zero_made.0
   zero_on = interned_goes_on state.nodes (Const (pos 0)) refl
 
   made_state_still : Still state made_state
-  made_state_still = record { terms = zero_on.terms; objects = refl; locs = refl; made = omega (arith, length-append state.made (new_sym_object world class zero_made.1 ∷ [])) }
+  made_state_still = record { terms = zero_on.terms; objects = refl; locs = refl; made = omega (arith, length-append state.made (object zero_made.1 ∷ [])) }
 
   default_is : (type : JType) → IsSymValue world made_state (default_sym zero_made.1 type)
   default_is (types.Class name) = tt
@@ -370,34 +392,82 @@ module _ (world : World) (state : State) (class : List ℕ) (sound : Sound world
   default_is types.Float = interned_is_term state.nodes (Const (pos 0))
   default_is types.Double = interned_is_term state.nodes (Const (pos 0))
 
-  object_is : IsMade world made_state (new_sym_object world class zero_made.1)
-  object_is = record {
-    count = length-map (slots_of_class world class) (λ (slot : FieldSlot). default_sym zero_made.1 slot.kind);
-    values = each_map (IsSymValue world made_state) (λ (slot : FieldSlot). default_sym zero_made.1 slot.kind) (slots_of_class world class) (λ slot. default_is slot.kind);
-  }
-
   made_stage : (stage : Stage) → IsStage world state stage → IsStage world made_state stage
   made_stage (Begins read) h = record { values = values_still world state made_state made_state_still read h.values; seen = h.seen; carried = h.carried }
   made_stage (Runs frame callers) h = (frame_still world state made_state made_state_still frame h.0, frames_still world state made_state made_state_still callers h.1)
 
-  pub made_sound : Sound world made_state
-  made_sound = record {
+  -- where the object keeps what made objects keep
+  object_sound : IsMade world made_state (object zero_made.1) → Sound world made_state
+  object_sound is = record {
     typed = sound.typed;
     found = sound.found;
     kinds = zero_on.kinds ∙ sound.kinds;
     conditions = conditions_still state.nodes zero_made.0 state.when zero_on.terms sound.conditions;
     stage = made_stage state.stage sound.stage;
     cells = cells_still world state made_state made_state_still refl sound.cells.seen sound.cells;
-    made = each_append (IsMade world made_state) state.made (new_sym_object world class zero_made.1 ∷ []) (made_still world state made_state made_state_still state.made sound.made)
-        (each_cons (IsMade world made_state) (new_sym_object world class zero_made.1) [] object_is (no_items (IsMade world made_state)));
+    made = each_append (IsMade world made_state) state.made (object zero_made.1 ∷ []) (made_still world state made_state made_state_still state.made sound.made)
+        (each_cons (IsMade world made_state) (object zero_made.1) [] is (no_items (IsMade world made_state)));
     receiver = sound.receiver;
     parameters = sound.parameters;
     keys = sound.keys;
+    chosen = chosen_kept state made_state (record { objects = λ number it at. at; made = made_pushed state.made (object zero_made.1) }) state.chosen
+        (array_next world state.method state.stage) sound.chosen;
   }
+
+-- one of a class
+pub made_sound : (world : World) (state : State) (class : List ℕ) → Sound world state → Sound world (with_made world state class)
+made_sound world state class sound =
+    let new : State = with_made world state class in
+    let zero : TermId = (interned state.nodes (Const (pos 0))).1 in
+    object_sound world state (new_sym_object world class) sound
+    (record {
+      count = length-map (slots_of_class world class) (λ (slot : FieldSlot). default_sym zero slot.kind);
+      counted = tt;
+      values = each_map (IsSymValue world new) (λ (slot : FieldSlot). default_sym zero slot.kind) (slots_of_class world class)
+          (λ slot. default_is world state (new_sym_object world class) sound slot.kind);
+    })
+
+-- an array of so many elements
+pub array_sound : (world : World) (state : State) (component : JType) (count : ℕ) → count < 2 ^ 31 → Sound world state → Sound world (with_array state component count)
+array_sound world state component count counted sound =
+    let new : State = with_array state component count in
+    let item : SymValue = default_sym (interned state.nodes (Const (pos 0))).1 component in
+    object_sound world state (new_sym_array component count) sound
+    (record {
+      count = tt;
+      counted = subst (λ (n : ℕ). n < 2 ^ 31) (sym (length-replicate count item)) counted;
+      values = each_copy (IsSymValue world new) count item (default_is world state (new_sym_array component count) sound component);
+    })
+
+-- ---- a throw
+
+-- what is thrown is there, or is made
+abbrev pub IsThereThrown : World → State → Thrown → Type 0
+IsThereThrown world state (OfClass class) = Unit {0}
+IsThereThrown world state (There object kind) = IsSymValue world state (object_value object)
+
+module _ (world : World) (bounds : Bounds) (state : State) (frame : SymFrame) (callers : List SymFrame) (running : state.stage ≡ Runs frame callers) (sound : Sound world state) where
+  abbrev SoundTo : Take → Type 0
+  SoundTo take = Sound world take.state
+
+  frames_are : frames_of state.stage ≡ frame ∷ callers
+  frames_are = ap frames_of running
+
+  pub thrown_sound : (it : Thrown) → IsThereThrown world state it → SoundTo (thrown world bounds state it)
+  thrown_sound (OfClass class) there =
+      thrown_has SoundTo world bounds state (OfClass class) (made_sound world state class sound)
+      (λ count target n current others is. landed_sound world (with_made world state class) frame callers running (made_sound world state class sound) count target n (New (length state.made)) (last_there class) current others
+      (ap (drop count) (sym frames_are) ∙ is)) sound sound
+    where
+      last_there : (class : List ℕ) → length state.made < length (with_made world state class).made
+      last_there class = omega (arith, length-append state.made (new_sym_object world class (interned state.nodes (Const (pos 0))).1 ∷ []))
+  thrown_sound (There object kind) there =
+      thrown_has SoundTo world bounds state (There object kind) sound
+      (λ count target n current others is. landed_sound world state frame callers running sound count target n (object_value object) there current others (ap (drop count) (sym frames_are) ∙ is)) sound sound
 
 -- ---- arguments
 
-below : (n i x : ℕ) → slice_get (numbers_below n) i ≡ Some x → x < n
+pub below : (n i x : ℕ) → slice_get (numbers_below n) i ≡ Some x → x < n
 below zero i x at = absurd cc
 below (suc n) i x at = elim (get_pushed (numbers_below n) n i x at) [
   | inl h ↦ let less = below n i x h in omega (arith, less)
@@ -566,6 +636,7 @@ module _ (world : World) (state : State) (sound : Sound world state) where
       receiver = read_receiver read;
       parameters = sound.parameters;
       keys = sound.keys;
+      chosen = begins_chosen world state read begins sound.chosen (IsPlaceNext world read_state);
     }
 
 -- the next argument is read
@@ -627,4 +698,5 @@ module _ (world : World) (state : State) (sound : Sound world state) (none : arg
       receiver = receiver_seen world state sound none;
       parameters = sound.parameters;
       keys = sound.keys;
+      chosen = begins_chosen world state read is sound.chosen (IsPlaceNext world (begun_state (Begins read)));
     }

@@ -1,11 +1,15 @@
 -- The values of terms that are made, whether they are found, folded or new, in pools whose operations stand behind their
 -- operands; and that the inputs behind those of the variables are none to a pool.
-use Rattle.std.proofs.Common.{◌≡◌, ℕ, suc, ◌<◌, ◌≤◌, ℤ, pos, Bool, true, false, List, [], ◌∷◌, ◌++◌, length, take, fold, slice_get, Option, Some, None, refl, sym, ap, subst, ◌∙◌, inl, inr, arith, length-take}
-use Rattle.std.proofs.lemmas.List.{take-append-le}
-use Rattle.std.proofs.lemmas.Option.{slice_get_within}
+use Rattle.std.proofs.Common.{◌≡◌, ℕ, zero, suc, ◌<◌, ◌≤◌, ℤ, pos, Bool, true, false, List, [], ◌∷◌, ◌++◌, length, take, drop, fold, slice_get, Option, Some, None, refl, sym, ap, subst, ◌∙◌, inl, inr, arith, length-take}
+use Rattle.std.proofs.lemmas.List.{take-append-drop, take-append-le}
+use Rattle.std.proofs.lemmas.List.Elements.{filter_map-append}
+use Rattle.std.proofs.lemmas.Option.{same_Some, slice_get_within}
 use Rattle.std.proofs.Math.ListN.{get_or-append}
 use Rattle.std.proofs.Math.Seq.{take-append_seam}
+use Rattle.std.specs.List.{cons_option}
 use Rattle.kb_arith.specs.Word.{word_and}
+use Rattle.kb_blast.specs.Query.{kind_from, kinds_of}
+use Rattle.kb_class.proofs.Lists.{has_either}
 use Rattle.kb_terms.specs.declared.op.Op.{Op}
 use Rattle.kb_terms.specs.declared.op.Op.TheVariants.{And}
 use Rattle.kb_terms.specs.declared.node.TermId.{TermId}
@@ -19,7 +23,7 @@ use Rattle.kb_terms.proofs.Values.{IsTerm-extends, with_value, before-value, val
 use Rattle.kb_numbered.proofs.PathLaws.{variable-below}
 use Rattle.kb_ways.specs.Asked.{interned_op}
 use Rattle.kb_ways.proofs.AskedLaws.{interned_is_term, interned_node}
-use Rattle.kb_ways.proofs.GrowLaws.{from_found, interned_extends}
+use Rattle.kb_ways.proofs.GrowLaws.{GoesOn, from_found, interned_extends}
 
 -- ---- pools whose operations stand behind their operands
 
@@ -144,7 +148,7 @@ low_made nodes t inputs ordered is =
 -- ---- inputs
 
 -- each variable's number is below
-abbrev VariablesBelow : ℕ → List Node → Type 0
+abbrev pub VariablesBelow : ℕ → List Node → Type 0
 VariablesBelow n nodes = (i v : ℕ) (kind : VarKind) → slice_get nodes i ≡ Some (Var v kind) → v < n
 
 more_of_node : (inputs more done : List ℤ) (node : Node) → ((v : ℕ) (kind : VarKind) → node ≡ Var v kind → v < length inputs)
@@ -160,12 +164,41 @@ more_of_nodes inputs more done (node ∷ nodes) below =
     ap (λ (z : ℤ). fold (with_value (inputs ++ more)) (done ++ z ∷ []) nodes) (more_of_node inputs more done node (λ v kind e. below 0 v kind (ap Some e)))
     ∙ more_of_nodes inputs more (with_value inputs done node) nodes (λ i v kind e. below (suc i) v kind e)
 
--- the inputs behind those of a pool's variables change no value
-pub more_inputs : (nodes : List Node) (inputs more : List ℤ) → IsPool nodes → variables_of nodes ≤ length inputs → values (inputs ++ more) nodes ≡ values inputs nodes
+-- the inputs behind those of the variables change no value
+pub inputs_behind : (nodes : List Node) (inputs more : List ℤ) → VariablesBelow (length inputs) nodes → values (inputs ++ more) nodes ≡ values inputs nodes
 unfolding values
-more_inputs nodes inputs more pool enough =
-    more_of_nodes inputs more [] nodes (λ i v kind e. below i v kind e) where
-      below : (i v : ℕ) (kind : VarKind) → slice_get nodes i ≡ Some (Var v kind) → v < length inputs
-      below i v kind e =
-          let less : v < variables_of nodes = variable-below nodes pool i v kind e in
-          omega (arith, less, enough)
+inputs_behind nodes inputs more below = more_of_nodes inputs more [] nodes (λ i v kind e. below i v kind e)
+
+pub pool_below : (nodes : List Node) → IsPool nodes → VariablesBelow (variables_of nodes) nodes
+pool_below nodes pool i v kind e = variable-below nodes pool i v kind e
+
+pub enough_below : (n m : ℕ) (nodes : List Node) → n ≤ m → VariablesBelow n nodes → VariablesBelow m nodes
+enough_below n m nodes enough below i v kind e = (let less : v < n = below i v kind e in omega (arith, less, enough))
+
+no_kind : (nodes : List Node) (i v : ℕ) (kind : VarKind) → slice_get nodes i ≡ Some (Var v kind) → kinds_of nodes ≡ [] → ⊥
+no_kind [] i v kind e none = absurd cc
+no_kind (node ∷ nodes) zero v kind e none = absurd (some (ap (λ (n : Node). kinds_of (n ∷ nodes)) (sym (same_Some node (Var v kind) e)) ∙ none)) where
+  some : kind ∷ kinds_of nodes ≡ [] → ⊥
+  some h = cc
+no_kind (node ∷ nodes) (suc i) v kind e none = no_kind nodes i v kind e (rest (kind_from node) none) where
+  rest : (it : Option VarKind) → cons_option it (kinds_of nodes) ≡ [] → kinds_of nodes ≡ []
+  rest None h = h
+  rest (Some k) h = absurd cc
+
+-- a pool that goes on has no further variable
+pub below_later : (old new : List Node) (n : ℕ) → GoesOn old new → VariablesBelow n old → VariablesBelow n new
+below_later old new n on below i v kind e = elim (has_either old rest (Var v kind) (i, ap (λ (nodes : List Node). slice_get nodes i) parts ∙ e)) [
+  | inl before ↦ below before.0 v kind before.1
+  | inr behind ↦ absurd (no_kind rest behind.0 v kind behind.1 none)
+] where
+  rest : List Node
+  rest = drop (length old) new
+
+  parts : old ++ rest ≡ new
+  parts = ap (λ (front : List Node). front ++ rest) (sym on.terms.kept) ∙ take-append-drop (length old) new
+
+  none : kinds_of rest ≡ []
+  none = no_more (kinds_of old) (kinds_of rest) (sym (filter_map-append kind_from old rest) ∙ ap kinds_of parts ∙ on.kinds) where
+    no_more : (front back : List VarKind) → front ++ back ≡ front → back ≡ []
+    no_more [] back h = h
+    no_more (k ∷ front) back h = no_more front back cc

@@ -8,7 +8,7 @@ use Rattle.kb_code.specs.declared.instruction.Cond.TheVariants as conds
 use Rattle.kb_semantics.specs.Comparisons.{is_plain}
 use Rattle.kb_semantics.specs.Instructions.{is_wanted}
 use Rattle.kb_terms.specs.declared.op.Op.{Op}
-use Rattle.kb_terms.specs.declared.op.Op.TheVariants.{Eq, Lt}
+use Rattle.kb_terms.specs.declared.op.Op.TheVariants.{Eq, Lt, Ult}
 use Rattle.kb_terms.specs.declared.node.TermId.{TermId}
 use Rattle.kb_terms.specs.declared.node.Node.{Node}
 use Rattle.kb_terms.specs.declared.node.Node.TheVariants.{Const, Op as Apply}
@@ -31,6 +31,10 @@ equal_sides a b so = record { op = Eq; left = a; right = b; truth = so }
 -- that the first is less than the second, with sign, or is not
 abbrev pub less_sides : Side → Side → Bool → Condition
 less_sides a b so = record { op = Lt; left = a; right = b; truth = so }
+
+-- that the first is less than the second, without sign, or is not
+abbrev pub unsigned_sides : Side → Side → Bool → Condition
+unsigned_sides a b so = record { op = Ult; left = a; right = b; truth = so }
 
 -- that a condition of a branch holds of two sides, or does not: the comparison is the one that the instruction makes
 abbrev pub branch_condition : Cond → Side → Side → Bool → Condition

@@ -9,8 +9,9 @@ use Rattle.kb_classes.specs.World.{World}
 use Rattle.kb_frames.specs.Next.{instruction_next, is_int_instruction, method_now}
 use Rattle.kb_frames.specs.State.{State}
 
--- aconst_null, aload, astore, if_acmp<cond>, ifnull, ifnonnull, areturn, getfield, putfield, invokevirtual, invokespecial,
--- invokestatic, invokeinterface and new
+-- aconst_null, aload, astore, if_acmp<cond>, ifnull, ifnonnull, areturn, athrow, getfield, putfield, invokevirtual,
+-- invokespecial, invokestatic, invokeinterface, new, the loads and stores of elements, arraylength, newarray, anewarray, checkcast,
+-- instanceof, and ldc of what is no int
 abbrev pub is_reference_instruction : Instr → Bool
 is_reference_instruction instrs.PushNull = true
 is_reference_instruction (instrs.LoadRef k) = true
@@ -18,6 +19,7 @@ is_reference_instruction (instrs.StoreRef k) = true
 is_reference_instruction (instrs.IfSame want target) = true
 is_reference_instruction (instrs.IfNull want target) = true
 is_reference_instruction instrs.ReturnRef = true
+is_reference_instruction instrs.Throw = true
 is_reference_instruction (instrs.GetField entry) = true
 is_reference_instruction (instrs.PutField entry) = true
 is_reference_instruction (instrs.Virtual entry) = true
@@ -25,6 +27,14 @@ is_reference_instruction (instrs.Special entry) = true
 is_reference_instruction (instrs.Static entry) = true
 is_reference_instruction (instrs.Interface entry) = true
 is_reference_instruction (instrs.New entry) = true
+is_reference_instruction (instrs.LoadElem elem) = true
+is_reference_instruction (instrs.StoreElem elem) = true
+is_reference_instruction instrs.Length = true
+is_reference_instruction (instrs.NewPrim code) = true
+is_reference_instruction (instrs.NewRefs entry) = true
+is_reference_instruction (instrs.Cast entry) = true
+is_reference_instruction (instrs.InstanceOf entry) = true
+is_reference_instruction (instrs.Ldc entry) = true
 is_reference_instruction _ = false
 
 -- an instruction of ints, or one on references

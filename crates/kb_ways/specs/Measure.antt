@@ -1,6 +1,7 @@
--- How many choices a state can still need before its next instruction is carried out. A further instruction that chooses is a
--- further case of `questions_of`; none needs more than five, so that each argument counts more than an instruction.
-use Rattle.std.specs.Prelude.{ℕ, suc, zero, ◌-◌, ◌*◌, length}
+-- How many choices a state can still need before its next instruction is carried out: the questions of the instruction that are
+-- open in the state. An answer closes one and opens none. A further instruction that chooses is a further case of `questions_of`;
+-- none needs more than five, so that each argument counts more than an instruction.
+use Rattle.std.specs.Prelude.{ℕ, suc, zero, ◌+◌, ◌-◌, ◌*◌, length, Option, Some, None, slice_get}
 use Rattle.std.specs.Option.{option_map_or}
 use Rattle.kb_class.specs.declared.ids.MethodId.{MethodId}
 use Rattle.kb_class.specs.declared.members.MethodInfo.{MethodInfo}
@@ -13,7 +14,13 @@ use Rattle.kb_semantics.specs.Config.{info_of}
 use Rattle.kb_semantics.specs.Inputs.{argument_types}
 use Rattle.kb_frames.specs.declared.state.Stage.{Stage}
 use Rattle.kb_frames.specs.declared.state.Stage.TheVariants.{Begins, Runs}
+use Rattle.kb_frames.specs.declared.value.Cell.{Cell}
+use Rattle.kb_frames.specs.declared.value.Cell.TheVariants.{Untouched}
+use Rattle.kb_frames.specs.declared.value.SymValue.{SymValue}
+use Rattle.kb_frames.specs.declared.value.SymValue.TheVariants.{Obj}
 use Rattle.kb_frames.specs.State.{State}
+use Rattle.kb_frames.specs.Heaps.{find_cell}
+use Rattle.kb_frames.specs.Lent.{stack_of}
 use Rattle.kb_frames.specs.Next.{instruction_next}
 
 -- whether the divisor is 0
@@ -22,16 +29,40 @@ questions_of_op ops.Div = 1
 questions_of_op ops.Rem = 1
 questions_of_op _ = 0
 
--- the most choices that an instruction can need: a branch on ints whether it is taken, a switch its key, a getfield what the
--- slot holds
-abbrev pub questions_of : Instr → ℕ
-questions_of (instrs.IfInt cond target) = 1
-questions_of (instrs.IfPair cond target) = 1
-questions_of (instrs.Table low default targets) = 1
-questions_of (instrs.Lookup default keys) = 1
-questions_of (instrs.Int2 op) = questions_of_op op
-questions_of (instrs.GetField entry) = 1
-questions_of _ = 0
+-- which place the index is, until one is chosen
+abbrev pub unchosen : Option ℕ → ℕ
+unchosen None = 1
+unchosen (Some place) = 0
+
+-- what an element holds that nobody has read or written
+abbrev pub untouched : Option Cell → ℕ
+untouched (Some Untouched) = 1
+untouched _ = 0
+
+abbrev pub untouched_in : State → ℕ → Option SymValue → ℕ
+untouched_in state place (Some (Obj number)) = untouched (find_cell state.cells number place)
+untouched_in state place _ = 0
+
+-- what the element at the place holds of the array below the index: as long as no place is chosen, that is not known either
+abbrev pub unknown : State → Option ℕ → ℕ
+unknown state None = 1
+unknown state (Some place) = untouched_in state place (slice_get (stack_of state.stage) 1)
+
+-- at most so many questions of an instruction are open: of a branch on ints whether it is taken, of a switch its key, of a
+-- getfield what the slot holds, of an access to an element its place and, where it is read, what it holds, of a new array its
+-- length
+abbrev pub questions_of : State → Instr → ℕ
+questions_of state (instrs.IfInt cond target) = 1
+questions_of state (instrs.IfPair cond target) = 1
+questions_of state (instrs.Table low default targets) = 1
+questions_of state (instrs.Lookup default keys) = 1
+questions_of state (instrs.Int2 op) = questions_of_op op
+questions_of state (instrs.GetField entry) = 1
+questions_of state (instrs.LoadElem elem) = unchosen state.chosen + unknown state state.chosen
+questions_of state (instrs.StoreElem elem) = unchosen state.chosen
+questions_of state (instrs.NewPrim code) = 1
+questions_of state (instrs.NewRefs entry) = 1
+questions_of state _ = 0
 
 -- how many arguments are not read
 abbrev pub unread_at : World → MethodId → Stage → ℕ
@@ -46,4 +77,4 @@ left_of (suc n) questions = 6 * suc n
 -- Six for each argument that is not read; once all are read, the choices that the present instruction can still need.
 abbrev pub choices_left : World → State → ℕ
 choices_left world state =
-    left_of (unread_at world state.method state.stage) (option_map_or questions_of (instruction_next world state.method state.stage) 0)
+    left_of (unread_at world state.method state.stage) (option_map_or (questions_of state) (instruction_next world state.method state.stage) 0)

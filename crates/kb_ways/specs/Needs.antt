@@ -1,5 +1,5 @@
 -- What the functions of a step need of a state and of conditions.
-use Rattle.std.specs.Prelude.{◌≡◌, ℕ, ◌<◌, true, List, Option, Some, slice_get}
+use Rattle.std.specs.Prelude.{◌≡◌, ℕ, ◌<◌, ◌≤◌, ◌^◌, true, List, Option, Some, slice_get}
 use Rattle.kb_heap.specs.declared.bounds.Bounds.{Bounds}
 use Rattle.kb_classes.specs.World.{World}
 use Rattle.kb_semantics.specs.Config.{code_of}
@@ -11,9 +11,13 @@ use Rattle.kb_frames.specs.declared.value.SymValue.TheVariants.{Int}
 use Rattle.kb_frames.specs.State.{State}
 use Rattle.kb_frames.specs.Lent.{stack_of, local_in}
 use Rattle.kb_frames.specs.Next.{method_now, offset_now}
+use Rattle.kb_picture.specs.declared.choice.Choice.{Choice}
+use Rattle.kb_picture.specs.declared.choice.Choice.TheVariants.{Index, Size}
 use Rattle.kb_ways.specs.declared.condition.Side.{Side}
 use Rattle.kb_ways.specs.declared.condition.Side.TheVariants.{Term, Number}
 use Rattle.kb_ways.specs.declared.condition.Condition.{Condition}
+use Rattle.kb_ways.specs.declared.question.Question.{Question}
+use Rattle.kb_ways.specs.declared.question.Question.TheVariants as questions
 use Rattle.kb_ways.specs.declared.turn.Turn.{Turn}
 
 -- ---- terms
@@ -52,3 +56,15 @@ pub record AreSides (nodes : List Node) (condition : Condition) : Type 0 where
   pub left : IsSide nodes condition.left
   pub right : IsSide nodes condition.right
   pub binary : is_binary condition.op ≡ true
+
+-- the int that is asked about is a term of the pool, and an int counts the elements
+abbrev pub IsQuestionIn : List Node → Question → Type 0
+IsQuestionIn nodes (questions.Reads slot type) = Unit {0}
+IsQuestionIn nodes (questions.Index x count) = IsTerm nodes x × (count < 2 ^ 31)
+IsQuestionIn nodes (questions.Length x most) = IsTerm nodes x × (most < 2 ^ 31)
+
+-- a place that is chosen is one of those that are asked about, and so is a length
+abbrev pub IsAnswerOf : Question → Choice → Type 0
+IsAnswerOf (questions.Index x count) (Index place) = place < count
+IsAnswerOf (questions.Length x most) (Size count) = count ≤ most
+IsAnswerOf question choice = Unit {0}

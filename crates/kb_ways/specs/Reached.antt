@@ -1,6 +1,5 @@
 -- What holds of every state to which `start` and later calls lead, of every method that reach accepts, beside what every state
--- keeps. Apart from it stands what a law asks of a state for now, that no method of its frames has handlers, and what holds where
--- nothing was called.
+-- keeps. Apart from it stands what holds where nothing was called, and of a method without handlers.
 use Rattle.std.specs.Prelude.{◌≡◌, ℕ, Bool, true, false, List, [], ◌∷◌, Some}
 use Rattle.std.specs.List.{list_any}
 use Rattle.std.specs.Option.{option_map_or}
@@ -19,7 +18,7 @@ use Rattle.kb_frames.specs.declared.frame.SymFrame.{SymFrame}
 use Rattle.kb_frames.specs.declared.state.Stage.{Stage}
 use Rattle.kb_frames.specs.declared.state.Stage.TheVariants.{Begins, Runs}
 use Rattle.kb_frames.specs.State.{State}
-use Rattle.kb_frames.specs.States.{Each, IsState}
+use Rattle.kb_frames.specs.States.{IsState}
 
 -- nothing was called: the current frame is the method's, and there are no callers
 abbrev pub IsAlone : MethodId → Stage → Type 0
@@ -32,11 +31,6 @@ has_none (handler ∷ others) = false
 
 abbrev pub HasNoHandlers : World → MethodId → Type 0
 HasNoHandlers world method = option_map_or (λ (code : MethodCode). code.handlers) (code_of world method) [] ≡ []
-
--- no method of these frames has handlers, nor has the one that begins
-abbrev pub HaveNoHandlers : World → MethodId → Stage → Type 0
-HaveNoHandlers world method (Begins read) = HasNoHandlers world method
-HaveNoHandlers world method (Runs frame callers) = HasNoHandlers world frame.method × Each (λ (caller : SymFrame). HasNoHandlers world caller.method) callers
 
 -- none of its parameters is of a type that is left out: they are ints, booleans and references
 abbrev pub HasNoneLeftOut : World → MethodId → Type 0

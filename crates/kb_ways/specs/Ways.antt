@@ -1,23 +1,26 @@
 -- The ways in which a step of a state goes on or ends, each the counterpart of the machine's way of that name (JVMS 8 sections
--- 2.6, 2.10 and 6.5; the bounds and what is ill-typed are own rules). For now no method has a handler: a throw ends the run.
-use Rattle.std.specs.Prelude.{ℕ, suc, List, [], ◌∷◌, length, nat_lt, Option, Some, None, option_map, if◌then◌else◌}
+-- 2.6, 2.10 and 6.5; the bounds and what is ill-typed are own rules).
+use Rattle.std.specs.Prelude.{ℕ, suc, List, [], ◌∷◌, drop, length, map, nat_lt, Option, Some, None, option_map, if◌then◌else◌}
 use Rattle.std.specs.Option.{option_map_or}
 use Rattle.kb_class.specs.declared.ids.MethodId.{MethodId}
 use Rattle.kb_heap.specs.declared.bounds.Bound.TheVariants.{Loops, Depth}
 use Rattle.kb_heap.specs.declared.bounds.Bounds.{Bounds}
 use Rattle.kb_classes.specs.World.{World}
+use Rattle.kb_names.specs.declared.types.ExactType.{ExactType}
+use Rattle.kb_names.specs.declared.types.ExactType.TheVariants as exact
 use Rattle.kb_semantics.specs.Config.{behind, has_room, place_in_code}
-use Rattle.kb_semantics.specs.Ways.{counted}
-use Rattle.kb_picture.specs.declared.path.Out.TheVariants as outs
+use Rattle.kb_semantics.specs.Ways.{Standpoint, counted, nearest_handler}
 use Rattle.kb_picture.specs.declared.path.SymEnding.{SymEnding}
 use Rattle.kb_picture.specs.declared.path.SymEnding.TheVariants.{Returned, Threw, IllTyped}
 use Rattle.kb_frames.specs.declared.value.SymValue.{SymValue}
+use Rattle.kb_frames.specs.declared.value.SymValue.TheVariants.{New, Obj}
 use Rattle.kb_frames.specs.declared.value.Outcome.{Outcome}
 use Rattle.kb_frames.specs.declared.value.Outcome.TheVariants.{Goes as OutcomeGoes, Ends, Cut}
+use Rattle.kb_frames.specs.declared.frame.FrameAt.{FrameAt}
 use Rattle.kb_frames.specs.declared.frame.SymFrame.{SymFrame}
 use Rattle.kb_frames.specs.State.{State}
 use Rattle.kb_frames.specs.StandsFor.{out_of}
-use Rattle.kb_frames.specs.Calls.{called, left}
+use Rattle.kb_frames.specs.Calls.{called, frame_told, frames_of, landed, left}
 use Rattle.kb_frames.specs.Lent.{on_frame, callers_of, carried_on, transfers_of, locals_of}
 use Rattle.kb_frames.specs.Making.{with_made}
 use Rattle.kb_frames.specs.Next.{method_now, offset_now}
@@ -27,15 +30,25 @@ pub record Take : Type 0 where
   pub state : State
   pub outcome : Outcome
 
+-- an object that is there: the one of that number of the picture, or of those that the run has made
+pub data ObjectThere : Type 0 where
+  OfPicture : ℕ → ObjectThere
+  OfRun : ℕ → ObjectThere
+
+abbrev pub object_value : ObjectThere → SymValue
+object_value (OfPicture number) = Obj number
+object_value (OfRun number) = New number
+
 -- A way on: at the next offset with these locals and this stack; at a target with this stack; into a method with code, with
 -- these arguments and the stack that is left here; out of the method, with a value or none; by a new object of a class that is
--- thrown; or none, since the instruction is ill-typed.
+-- thrown, or by an object that is there, of that exact type; or none, since the instruction is ill-typed.
 pub data Way : Type 0 where
   Goes : List (Option SymValue) → List SymValue → Way
   Jumps : ℕ → List SymValue → Way
   Enters : MethodId → List SymValue → List SymValue → Way
   Leaves : Option SymValue → Way
   Throws : List ℕ → Way
+  ThrowsThere : ObjectThere → ExactType → Way
   Fails : Way
 
 -- ---- each way
@@ -88,7 +101,7 @@ resumes world value caller = record caller { at = behind world caller.method cal
 abbrev pub returned_to : World → State → List SymFrame → Option SymValue → Take
 returned_to world state [] value = ends state (Returned (option_map out_of value))
 returned_to world state (caller ∷ more) value =
-    if has_room world caller.method (length (with_result value caller.stack)) then carries_out (left state) (resumes world value) else ill_typed world state
+    if has_room world caller.method (length (with_result value caller.stack)) then carries_out (left 1 state) (resumes world value) else ill_typed world state
 
 -- The method's result, or none, is handed to the nearest caller's stack, which must have room for it; that caller goes on behind
 -- its invoke. Where it has no room, the return is ill-typed. With no caller the run ends.
@@ -97,9 +110,55 @@ returned world state value = returned_to world state (callers_of state.stage) va
 
 -- ---- a throw
 
--- an object of the class is made and thrown
-abbrev pub throws : World → State → List ℕ → Take
-throws world state class = ends (with_made world state class) (Threw (outs.New (length state.made)))
+-- what is thrown: an object of the class, which is to be made, or one that is there, of that exact type
+pub data Thrown : Type 0 where
+  OfClass : List ℕ → Thrown
+  There : ObjectThere → ExactType → Thrown
+
+abbrev pub kind_thrown : Thrown → ExactType
+kind_thrown (OfClass class) = exact.Class class
+kind_thrown (There object kind) = kind
+
+-- the value that it is, and the state that has it
+abbrev pub value_thrown : State → Thrown → SymValue
+value_thrown state (OfClass class) = New (length state.made)
+value_thrown state (There object kind) = object_value object
+
+abbrev pub with_thrown : World → State → Thrown → State
+with_thrown world state (OfClass class) = with_made world state class
+with_thrown world state (There object kind) = state
+
+-- where a frame stands: a caller at its invoke
+abbrev pub stands_at : SymFrame → Standpoint
+stands_at frame = (frame.method, frame.at)
+
+-- so many frames are left, and the next one goes on at the target, with nothing but the object on its stack
+abbrev pub caught : World → State → Thrown → ℕ → ℕ → ℕ → Take
+caught world state it count target transfers =
+    carries_out (landed count (value_thrown state it) transfers (with_thrown world state it)) (λ (frame : SymFrame). record frame { at = target })
+
+-- The frame that is told, before which so many are left, takes it at the target: it must have room for it, which comes before the
+-- bound. Nothing is made where it does not go on there.
+abbrev pub lands_in : World → Bounds → State → Thrown → ℕ → ℕ → FrameAt → Take
+lands_in world bounds state it count target frame =
+    if has_room world frame.method 1
+    then option_map_or (caught world state it count target) (counted bounds.run frame.at target frame.transfers) (record { state = state; outcome = Cut Loops })
+    else ill_typed world state
+
+-- the first of these frames takes it
+abbrev pub lands : World → Bounds → State → Thrown → ℕ → ℕ → List SymFrame → Take
+lands world bounds state it count target [] = ill_typed world state
+lands world bounds state it count target (frame ∷ callers) = lands_in world bounds state it count target (frame_told frame)
+
+-- with no handler it ends the run
+abbrev pub uncaught : World → State → Thrown → Take
+uncaught world state it = ends (with_thrown world state it) (Threw (out_of (value_thrown state it)))
+
+-- A thrown object goes to the nearest handler, on the way from the current frame to its callers, or ends the run.
+unfoldable pub thrown : World → Bounds → State → Thrown → Take
+thrown world bounds state it =
+    option_map_or (λ (found : ℕ × ℕ). lands world bounds state it found.0 found.1 (drop found.0 (frames_of state.stage)))
+    (nearest_handler world (kind_thrown it) (map stands_at (frames_of state.stage))) (uncaught world state it)
 
 -- ---- all of them
 
@@ -109,7 +168,8 @@ went world bounds next state (Goes locals stack) = goes_on world next state loca
 went world bounds next state (Jumps target stack) = jumps world bounds state target stack
 went world bounds next state (Enters method arguments rest) = entered world bounds state method arguments rest
 went world bounds next state (Leaves value) = returned world state value
-went world bounds next state (Throws class) = throws world state class
+went world bounds next state (Throws class) = thrown world bounds state (OfClass class)
+went world bounds next state (ThrowsThere object kind) = thrown world bounds state (There object kind)
 went world bounds next state Fails = ill_typed world state
 
 -- ---- parts

@@ -22,10 +22,14 @@ fn is_reference_instruction(instr: &Instr) -> bool
 {
     match instr {
         Instr::PushNull | Instr::LoadRef(_) | Instr::StoreRef(_) => true,
-        Instr::IfSame(..) | Instr::IfNull(..) | Instr::ReturnRef => true,
+        Instr::IfSame(..) | Instr::IfNull(..) => true,
+        Instr::ReturnRef | Instr::Throw => true,
         Instr::GetField(_) | Instr::PutField(_) => true,
         Instr::Virtual(_) | Instr::Special(_) => true,
         Instr::Static(_) | Instr::Interface(_) | Instr::New(_) => true,
+        Instr::LoadElem(_) | Instr::StoreElem(_) | Instr::Length => true,
+        Instr::NewPrim(_) | Instr::NewRefs(_) => true,
+        Instr::Cast(_) | Instr::InstanceOf(_) | Instr::Ldc(_) => true,
         _ => false,
     }
 }

@@ -55,13 +55,13 @@ pub fn returns(
     requires { IsFor turn.now state.old }
     ensures { IfOk result (λ outcome. told state.new outcome ≡ led turn.now state.old (Leaves value)) }
 {
-    let Some((method, height)) = state.caller() else {
+    let Some(caller) = state.frame_at(1) else {
         return Ok(Outcome::Ends(returned(value)));
     };
-    if !takes_result(turn.world, method, height, value) {
+    if !takes_result(turn.world, caller.method, caller.height, value) {
         return ill_typed(turn, state);
     }
-    state.leave();
+    state.leave(1);
     give(state, value)?;
     let (method, at) = state.stands_at();
     carry_on(turn, state, behind(turn.world, method, at));
@@ -118,7 +118,8 @@ pub fn return_value(
     }
 }
 
-fn out_of(value: SymValue) -> Out
+/// A value as one that a path states.
+pub(crate) fn out_of(value: SymValue) -> Out
     ensures { result ≡ out_of value }
 {
     match value {

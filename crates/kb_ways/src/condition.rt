@@ -1,6 +1,6 @@
 //! Conditions that the alternatives of a choice ask for.
-ghost use Rattle.std.specs.Prelude.{◌≡◌};
-ghost use Rattle.kb_ways.specs.Asked.{branch_condition, equal_sides, less_sides};
+ghost use Rattle.std.specs.Prelude.{◌≡◌, ◌<◌, ◌^◌, pos, true, false};
+ghost use Rattle.kb_ways.specs.Asked.{branch_condition, equal_sides, less_sides, unsigned_sides};
 ghost use Rattle.kb_ways.specs.declared.condition.Side.TheVariants.{Number, Term};
 
 use kb_code::Cond;
@@ -22,7 +22,7 @@ pub struct Condition {
     pub truth: bool,
 }
 
-/// That two sides are equal, or are not.
+// That two sides are equal, or are not.
 fn equal(left: Side, right: Side, truth: bool) -> Condition
     ensures { result ≡ equal_sides left right truth }
 {
@@ -41,6 +41,7 @@ pub fn equals_number(x: TermId, number: i32, truth: bool) -> Condition
     equal(Side::Term(x), Side::Number(number), truth)
 }
 
+// That the first side is less than the second, with sign, or is not.
 fn less(left: Side, right: Side, truth: bool) -> Condition
     ensures { result ≡ less_sides left right truth }
 {
@@ -50,6 +51,53 @@ fn less(left: Side, right: Side, truth: bool) -> Condition
         right,
         truth,
     }
+}
+
+// A count as an int.
+fn int_of(count: u32) -> i32
+    requires { count < 2 ^ 31 }
+    ensures { result ≡ pos count }
+{
+    match i32::try_from(count) {
+        Ok(number) => number,
+        Err(_) => unreachable!(),
+    }
+}
+
+/// That an int is the number.
+pub fn equals_count(x: TermId, count: u32) -> Condition
+    requires { count < 2 ^ 31 }
+    ensures { result ≡ equal_sides (Term x) (Number (pos count)) true }
+{
+    equals_number(x, int_of(count), true)
+}
+
+/// That an int is none of the numbers from 0 up to below the count: without sign it is not less.
+pub fn outside_count(x: TermId, count: u32) -> Condition
+    requires { count < 2 ^ 31 }
+    ensures { result ≡ unsigned_sides (Term x) (Number (pos count)) false }
+{
+    Condition {
+        op: Op::Ult,
+        left: Side::Term(x),
+        right: Side::Number(int_of(count)),
+        truth: false,
+    }
+}
+
+/// That an int is negative, or is not.
+pub fn negative(x: TermId, truth: bool) -> Condition
+    ensures { result ≡ less_sides (Term x) (Number (pos 0)) truth }
+{
+    less(Side::Term(x), Side::Number(0), truth)
+}
+
+/// That an int is above the number.
+pub fn above_count(x: TermId, count: u32) -> Condition
+    requires { count < 2 ^ 31 }
+    ensures { result ≡ less_sides (Number (pos count)) (Term x) true }
+{
+    less(Side::Number(int_of(count)), Side::Term(x), true)
 }
 
 /// That a condition holds of two sides, or does not.

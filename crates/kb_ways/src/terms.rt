@@ -1,12 +1,18 @@
 //! Terms that a step makes, each with the whole state afterwards.
-ghost use Rattle.std.specs.Prelude.{◌≡◌, IfOk, OnOk};
+ghost use Rattle.std.specs.Prelude.{◌≡◌, drop, IfOk, OnOk};
+ghost use Rattle.kb_arith.specs.Word.{truth};
 ghost use Rattle.kb_terms.specs.declared.node.Node.TheVariants.{Const};
 ghost use Rattle.kb_terms.specs.Terms.{AreOperands, Extends, IsPool, IsTerm, interned};
-ghost use Rattle.kb_frames.specs.Lent.{with_nodes};
+ghost use Rattle.kb_frames.specs.Lent.{stack_of, with_nodes};
 ghost use Rattle.kb_ways.specs.Asked.{interned_op};
+ghost use Rattle.kb_ways.specs.Needs.{IsFor};
+ghost use Rattle.kb_ways.specs.Plans.{pushes_term};
+ghost use Rattle.kb_ways.specs.Turns.{led_by, told};
 
 use crate::NoMemory;
-use kb_frames::SymState;
+use crate::turn::Turn;
+use crate::ways::replaces;
+use kb_frames::{Outcome, SymState, SymValue};
 use kb_terms::{Op, TermId};
 
 /// The term of an int.
@@ -21,6 +27,34 @@ pub fn constant(state: &mut SymState, value: i32) -> Result<TermId, NoMemory>
         Ok(term) => Ok(of_pool(state, term)),
         Err(_) => Err(NoMemory),
     }
+}
+
+/// It goes on at the next offset, with the term of a number in the place of so many values on the stack.
+pub fn push_number(
+    turn: &Turn<'_>,
+    state: &mut SymState,
+    count: usize,
+    number: i32,
+) -> Result<Outcome, NoMemory>
+    requires { IsFor turn.now state.old }
+    ensures { IfOk result (λ outcome. told state.new outcome ≡ led_by turn.now (pushes_term state.old (drop count (stack_of state.old.stage)) (interned state.old.nodes (Const number)))) }
+{
+    let term = constant(state, number)?;
+    replaces(turn, state, count, &[SymValue::Int(term)])
+}
+
+/// So with 1 where that is so, and else 0.
+pub fn push_truth(
+    turn: &Turn<'_>,
+    state: &mut SymState,
+    count: usize,
+    so: bool,
+) -> Result<Outcome, NoMemory>
+    requires { IsFor turn.now state.old }
+    ensures { IfOk result (λ outcome. told state.new outcome ≡ led_by turn.now (pushes_term state.old (drop count (stack_of state.old.stage)) (interned state.old.nodes (Const (truth so))))) }
+{
+    let number = if so { 1 } else { 0 };
+    push_number(turn, state, count, number)
 }
 
 /// The term of an operation on terms.

@@ -7,14 +7,14 @@ ghost use Rattle.kb_frames.specs.declared.frame.SymFrame.{SymFrame};
 ghost use Rattle.kb_ways.specs.Needs.{IsFor};
 ghost use Rattle.kb_ways.specs.Plans.{takes_none};
 ghost use Rattle.kb_ways.specs.Turns.{led, told};
-ghost use Rattle.kb_ways.specs.Ways.{Goes, Jumps, Throws, Fails, ill_typed};
+ghost use Rattle.kb_ways.specs.Ways.{Goes, Jumps, Fails, ill_typed};
 
 use crate::NoMemory;
 use crate::place::place_in_code;
 use crate::turn::Turn;
 use kb_frames::{Outcome, SymState, SymValue};
 use kb_heap::{Bound, Bounds};
-use kb_picture::{Out, SymEnding};
+use kb_picture::SymEnding;
 use kb_semantics::World;
 use std::alloc::Global;
 
@@ -103,14 +103,6 @@ fn push_all(state: &mut SymState, values: &[SymValue]) -> Result<(), NoMemory>
         state.push(*value)?;
     }
     Ok(())
-}
-
-/// A new object of the class is thrown, which ends the run. After memory ran out the state is only dropped.
-pub fn throws(turn: &Turn<'_>, state: &mut SymState, class: &[u8]) -> Result<Outcome, NoMemory>
-    ensures { IfOk result (λ outcome. told state.new outcome ≡ led turn.now state.old (Throws class.now)) }
-{
-    let number = state.make_object(turn.world, class)?;
-    Ok(Outcome::Ends(SymEnding::Threw(Out::New(number))))
 }
 
 /// It goes on at a target, with so many values fewer on the stack.

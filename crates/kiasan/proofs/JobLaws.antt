@@ -105,7 +105,7 @@ starts_lazily state init id e lazy = ap (λ (s : State). s.init) e ∙ lazy
 
 -- the arrays of a job are ones that an int can count
 pub in_range : (bounds : Bounds) → AreBounds bounds → AreInRange bounds
-in_range bounds are = omega (arith, are.array)
+in_range bounds are = record { array = omega (arith, are.array); alloc = omega (arith, are.alloc) }
 
 -- what an exploration from that state lists
 pub listed_of : (world : World) (state : State) (init : Init) (id : MethodId) (bounds : Bounds) (paths budget asked : ℕ) (leaves : List Path) →

@@ -1,18 +1,20 @@
 //! What a state over a heap holds, as lines.
 
 use crate::told::append_exact;
+use kb_class::MethodId;
 use kb_frames::{Cell, Outcome, SymState, SymValue};
-use kb_lookups::max_locals;
-use kb_names::ExactType;
-use kb_table::{RowResult, append, append_number};
+use kb_lookups::{max_locals, target_of};
+use kb_names::{ExactType, write_target};
+use kb_table::{RowResult, append, append_number, kept};
 use kb_world::World;
 use std::alloc::Global;
 
 /// More locals, values on a stack, objects and slots than a row has.
 const MOST: u32 = 64;
 
-/// Appends the stack with its top first and the locals, where the state goes on; the cells of each object that was met; what
-/// the run has made. Of a state that is cut nothing is told: a slot that lies beyond a bound has no value in it.
+/// Appends the current method, where it is another one than that of the row, the stack with its top first and the locals, where
+/// the state goes on; the cells of each object that was met; what the run has made. Of a state that is cut nothing is told: a slot
+/// that lies beyond a bound has no value in it.
 pub fn append_held(
     alloc: Global,
     world: &World,
@@ -35,8 +37,35 @@ fn append_frame(
     state: &SymState,
     into: &mut Vec<u8>,
 ) -> RowResult<()> {
+    append_method(alloc, world, state, into)?;
     append_stack(alloc, state, into)?;
     append_locals(alloc, world, state, into)
+}
+
+/// A line with the method of the current frame, where that is not the one of whose run it is a state.
+fn append_method(
+    alloc: Global,
+    world: &World,
+    state: &SymState,
+    into: &mut Vec<u8>,
+) -> RowResult<()> {
+    let (method, _) = state.stands_at();
+    if method == state.method() {
+        return Ok(());
+    }
+    append("  in ", into)?;
+    append_target(alloc, world, method, into)?;
+    append("\n", into)
+}
+
+fn append_target(
+    alloc: Global,
+    world: &World,
+    method: MethodId,
+    into: &mut Vec<u8>,
+) -> RowResult<()> {
+    let target = kept(target_of(alloc, world, method))?;
+    kept(write_target(&target, into))
 }
 
 fn append_stack(alloc: Global, state: &SymState, into: &mut Vec<u8>) -> RowResult<()> {
@@ -54,7 +83,8 @@ fn append_locals(
     into: &mut Vec<u8>,
 ) -> RowResult<()> {
     append("  locals", into)?;
-    for number in 0..max_locals(world, state.method()) {
+    let (method, _) = state.stands_at();
+    for number in 0..max_locals(world, method) {
         append_value(alloc, " ", state.local(number), into)?;
     }
     append("\n", into)
@@ -97,6 +127,7 @@ fn append_made(alloc: Global, state: &SymState, into: &mut Vec<u8>) -> RowResult
         if let Some(kind) = state.exact_type_of(SymValue::New(number)) {
             append_number(alloc, "  n", i64::from(number), into)?;
             append_kind(kind, into)?;
+            append_made_values(alloc, state, number, into)?;
         }
     }
     Ok(())
@@ -104,7 +135,21 @@ fn append_made(alloc: Global, state: &SymState, into: &mut Vec<u8>) -> RowResult
 
 fn append_kind(kind: &ExactType, into: &mut Vec<u8>) -> RowResult<()> {
     append(" ", into)?;
-    append_exact(kind, into)?;
+    append_exact(kind, into)
+}
+
+/// The values of an object that the run has made, and the end of its line.
+fn append_made_values(
+    alloc: Global,
+    state: &SymState,
+    object: u32,
+    into: &mut Vec<u8>,
+) -> RowResult<()> {
+    for slot in 0..MOST {
+        if let Some(value) = state.made_value(object, slot) {
+            append_value(alloc, " ", Some(value), into)?;
+        }
+    }
     append("\n", into)
 }
 

@@ -68,7 +68,9 @@ fn set(bounds: &mut Bounds, name: &str, number: u32) -> RowResult<()> {
     match name.as_bytes() {
         b"k" => bounds.k = number,
         b"array" => bounds.array = number,
+        b"alloc" => bounds.run.alloc = number,
         b"loops" => bounds.run.loops = number,
+        b"depth" => bounds.run.depth = number,
         b"steps" => bounds.run.steps = number,
         _ => return Err(RowStop::Malformed),
     }

@@ -25,6 +25,8 @@ fn append_choice(alloc: Global, choice: &Choice, into: &mut Vec<u8>) -> RowResul
     match choice {
         Choice::Key(place) => append_number(alloc, "key ", i64::from(*place), into),
         Choice::Alias(number) => append_number(alloc, "o", i64::from(*number), into),
+        Choice::Index(place) => append_number(alloc, "index ", i64::from(*place), into),
+        Choice::Size(length) => append_number(alloc, "size ", i64::from(*length), into),
         Choice::Fresh(kind, length) => append_fresh(alloc, kind, *length, into),
         other => append(choice_text(other), into),
     }
@@ -41,7 +43,10 @@ fn choice_text(choice: &Choice) -> &'static str {
         Choice::NotZero => "not zero",
         Choice::Null => "null",
         Choice::Beyond => "beyond",
-        _ => "one of arrays or locations",
+        Choice::Outside => "outside",
+        Choice::Negative => "negative",
+        Choice::TooLarge => "too large",
+        _ => "one of locations",
     }
 }
 

@@ -1,30 +1,24 @@
 //! The walk of a row from choice to choice.
 
-ghost use Rattle.std.specs.Prelude.{◌≡◌, true, false, IfOk, OnOk, if◌then◌else◌};
+ghost use Rattle.std.specs.Prelude.{◌≡◌, true, IfOk, OnOk};
 ghost use Rattle.kb_class.specs.Naming.{Has};
-ghost use Rattle.kb_classes.specs.World.{World};
-ghost use Rattle.kb_frames.specs.Next.{next_is_int};
-ghost use Rattle.kb_frames.specs.State.{State};
-ghost use Rattle.kb_stepint.specs.Choices.{choices_of as int_choices};
-ghost use Rattle.kb_ways.specs.Reached.{IsReached};
-ghost use Rattle.kb_stepref.specs.Choices.{choices_of as reference_choices};
-ghost use Rattle.kb_drive.specs.HeapMethods.{is_heap_method};
 ghost use Rattle.kb_lazy.specs.Laws.{AreInRange};
-ghost use Rattle.kb_drive.specs.Reached.{GoesOnReached, IsHeapReached};
+ghost use Rattle.kb_ways.specs.Built.{IsBuiltNext};
+ghost use Rattle.kb_ways.specs.Reached.{IsReached};
+ghost use Rattle.kb_steps.specs.Stepping.{IsStepping, StepsOn};
+ghost use Rattle.kb_steps.specs.Taking.{choices_at};
 
 use crate::ends::append_met;
 use crate::held::append_held;
 use crate::rows::{TableRow, read_row};
 use crate::told::{append_choices, append_nodes, append_outcome};
 use kb_class::MethodId;
-use kb_drive::{heap_methods_stay, is_heap_method};
-use kb_frames::{Outcome, SymState, start};
+use kb_frames::{Outcome, SymState};
 use kb_heap::Bounds;
 use kb_load::reached;
-use kb_picture::{Choice, Init};
-use kb_rows::Held;
-use kb_stepint::{advance_int, choices_int, is_int_method, take_int};
-use kb_stepref::{advance_ref, choices_ref, take_ref};
+use kb_picture::Choice;
+use kb_stepint::is_int_method;
+use kb_steps::{advance, begin, choices, goes_on, is_built_next, take};
 use kb_table::{RowResult, RowStop, append};
 use kb_ways::Advanced;
 use kb_world::World;
@@ -103,43 +97,21 @@ fn walk(
     steps: Steps,
     into: &mut Vec<u8>,
 ) -> RowResult<()> {
-    if !is_heap_method(world, method) {
-        return append("is no method over heaps\n", into);
-    }
     if !is_in_range(&row.bounds) {
         return append("has a bound on arrays that is too great\n", into);
     }
-    let mut state = begin(alloc, world, method)?;
+    let Some(mut state) = begin(alloc, world, method)? else {
+        return append("has a type that is left out\n", into);
+    };
     follow(alloc, world, row, steps, state.get_mut(), into)?;
     append_met(alloc, world, row, state.get(), into)
 }
 
-/// Whether an int can count the elements of an array within the bound, and one more.
+/// Whether an int can count the elements of an array within either bound, and one more.
 fn is_in_range(bounds: &Bounds) -> bool
     ensures { result ≡ true → AreInRange bounds.now }
 {
-    bounds.array < i32::MAX as u32
-}
-
-/// The state before the first step, in a box.
-fn begin(alloc: Global, world: &World, method: MethodId) -> RowResult<Held<SymState>>
-    requires { is_heap_method world.now method ≡ true }
-    ensures { IfOk result (IsHeapReached world.now) }
-{
-    let state = first_state(alloc, world, method)?;
-    Ok(Held::new(alloc, state)?)
-}
-
-fn first_state(alloc: Global, world: &World, method: MethodId) -> RowResult<SymState>
-    requires { is_heap_method world.now method ≡ true }
-    ensures { IfOk result (IsHeapReached world.now) }
-{
-    heap_methods_stay();
-    let _ = world.method_of(method);
-    match start(alloc, world, method, Init::Lazy) {
-        Ok(state) => Ok(state),
-        Err(_) => Err(RowStop::NoMemory),
-    }
+    bounds.array < i32::MAX as u32 && bounds.run.alloc < i32::MAX as u32
 }
 
 /// Steps on as long as another one comes.
@@ -151,12 +123,15 @@ fn follow(
     state: &mut SymState,
     into: &mut Vec<u8>,
 ) -> RowResult<()>
-    requires reached { IsHeapReached world.now state.old }
+    requires stepping { IsStepping world.now state.old }
     requires range { AreInRange row.now.bounds }
     ensures { OnOk result (IsReached world.now state.new) }
 {
     let mut taken = 0;
     for _ in 0..MOST {
+        if !is_built_next(world, state) {
+            return append("meets what is not built\n", into);
+        }
         if !step(alloc, world, row, steps, &mut taken, state, into)? {
             return Ok(());
         }
@@ -174,14 +149,15 @@ fn step(
     state: &mut SymState,
     into: &mut Vec<u8>,
 ) -> RowResult<bool>
-    requires reached { IsHeapReached world.now state.old }
+    requires stepping { IsStepping world.now state.old }
+    requires built { IsBuiltNext world.now state.old }
     requires range { AreInRange row.now.bounds }
     ensures reached { OnOk result (IsReached world.now state.new) }
-    ensures on { IfOk result (λ goes_on. goes_on ≡ true → IsHeapReached world.now state.new) }
+    ensures on { IfOk result (λ goes_on. goes_on ≡ true → IsStepping world.now state.new) }
 {
     match steps {
         Steps::Listed => step_by_list(alloc, world, row, taken, state, into),
-        Steps::Advanced => advance(alloc, world, row, taken, state, into),
+        Steps::Advanced => step_on(alloc, world, row, taken, state, into),
     }
 }
 
@@ -194,10 +170,11 @@ fn step_by_list(
     state: &mut SymState,
     into: &mut Vec<u8>,
 ) -> RowResult<bool>
-    requires reached { IsHeapReached world.now state.old }
+    requires stepping { IsStepping world.now state.old }
+    requires built { IsBuiltNext world.now state.old }
     requires range { AreInRange row.now.bounds }
     ensures reached { OnOk result (IsReached world.now state.new) }
-    ensures on { IfOk result (λ goes_on. goes_on ≡ true → IsHeapReached world.now state.new) }
+    ensures on { IfOk result (λ goes_on. goes_on ≡ true → IsStepping world.now state.new) }
 {
     let choices = choices(alloc, world, state, &row.bounds)?;
     choose(alloc, world, row, taken, state, choices.as_slice(), into)
@@ -213,11 +190,12 @@ fn choose(
     choices: &[Choice],
     into: &mut Vec<u8>,
 ) -> RowResult<bool>
-    requires reached { IsHeapReached world.now state.old }
+    requires stepping { IsStepping world.now state.old }
+    requires built { IsBuiltNext world.now state.old }
     requires range { AreInRange row.now.bounds }
-    requires offered { choices.now ≡ (if next_is_int world.now state.old then int_choices world.now state.old row.now.bounds else reference_choices world.now state.old row.now.bounds) }
+    requires offered { choices.now ≡ choices_at world.now row.now.bounds state.old }
     ensures reached { OnOk result (IsReached world.now state.new) }
-    ensures on { IfOk result (λ goes_on. goes_on ≡ true → IsHeapReached world.now state.new) }
+    ensures on { IfOk result (λ goes_on. goes_on ≡ true → IsStepping world.now state.new) }
 {
     append_choices(alloc, choices, into)?;
     let Some(place) = place_of(choices, row.decisions.as_slice(), taken) else {
@@ -232,7 +210,7 @@ fn choose(
 }
 
 /// One step by the only way on, where there is one, and else by an alternative.
-fn advance(
+fn step_on(
     alloc: Global,
     world: &World,
     row: &TableRow,
@@ -240,59 +218,14 @@ fn advance(
     state: &mut SymState,
     into: &mut Vec<u8>,
 ) -> RowResult<bool>
-    requires reached { IsHeapReached world.now state.old }
+    requires stepping { IsStepping world.now state.old }
+    requires built { IsBuiltNext world.now state.old }
     requires range { AreInRange row.now.bounds }
     ensures reached { OnOk result (IsReached world.now state.new) }
-    ensures on { IfOk result (λ goes_on. goes_on ≡ true → IsHeapReached world.now state.new) }
+    ensures on { IfOk result (λ goes_on. goes_on ≡ true → IsStepping world.now state.new) }
 {
-    if state.next_is_int(world) {
-        return advance_on_ints(alloc, world, row, taken, state, into);
-    }
-    advance_on_references(alloc, world, row, taken, state, into)
-}
-
-fn advance_on_ints(
-    alloc: Global,
-    world: &World,
-    row: &TableRow,
-    taken: &mut usize,
-    state: &mut SymState,
-    into: &mut Vec<u8>,
-) -> RowResult<bool>
-    requires reached { IsHeapReached world.now state.old }
-    requires ints { next_is_int world.now state.old ≡ true }
-    requires range { AreInRange row.now.bounds }
-    ensures reached { OnOk result (IsReached world.now state.new) }
-    ensures on { IfOk result (λ goes_on. goes_on ≡ true → IsHeapReached world.now state.new) }
-{
-    heap_methods_stay();
     let before = state.pool().nodes().len();
-    match advance_int(alloc, world, state, &row.bounds) {
-        Ok(Advanced::Chooses(choices)) => {
-            choose(alloc, world, row, taken, state, choices.as_slice(), into)
-        }
-        Ok(Advanced::Took(outcome)) => tell_only(alloc, world, state, &outcome, before, into),
-        Err(_) => Err(RowStop::NoMemory),
-    }
-}
-
-fn advance_on_references(
-    alloc: Global,
-    world: &World,
-    row: &TableRow,
-    taken: &mut usize,
-    state: &mut SymState,
-    into: &mut Vec<u8>,
-) -> RowResult<bool>
-    requires reached { IsHeapReached world.now state.old }
-    requires references { next_is_int world.now state.old ≡ false }
-    requires range { AreInRange row.now.bounds }
-    ensures reached { OnOk result (IsReached world.now state.new) }
-    ensures on { IfOk result (λ goes_on. goes_on ≡ true → IsHeapReached world.now state.new) }
-{
-    heap_methods_stay();
-    let before = state.pool().nodes().len();
-    match advance_ref(alloc, world, state, &row.bounds) {
+    match advance(alloc, world, state, &row.bounds) {
         Ok(Advanced::Chooses(choices)) => {
             choose(alloc, world, row, taken, state, choices.as_slice(), into)
         }
@@ -310,8 +243,8 @@ fn tell_only(
     before: usize,
     into: &mut Vec<u8>,
 ) -> RowResult<bool>
-    requires { GoesOnReached world.now state.now outcome.now }
-    ensures { IfOk result (λ goes_on. goes_on ≡ true → IsHeapReached world.now state.now) }
+    requires { StepsOn world.now state.now outcome.now }
+    ensures { IfOk result (λ goes_on. goes_on ≡ true → IsStepping world.now state.now) }
 {
     append("only", into)?;
     append_taken(alloc, world, state, outcome, before, into)?;
@@ -327,11 +260,12 @@ fn take_and_tell(
     bounds: &Bounds,
     into: &mut Vec<u8>,
 ) -> RowResult<bool>
-    requires reached { IsHeapReached world.now state.old }
+    requires stepping { IsStepping world.now state.old }
+    requires built { IsBuiltNext world.now state.old }
     requires range { AreInRange bounds.now }
-    requires offered { Has (if next_is_int world.now state.old then int_choices world.now state.old bounds.now else reference_choices world.now state.old bounds.now) choice.now }
+    requires offered { Has (choices_at world.now bounds.now state.old) choice.now }
     ensures reached { OnOk result (IsReached world.now state.new) }
-    ensures on { IfOk result (λ goes_on. goes_on ≡ true → IsHeapReached world.now state.new) }
+    ensures on { IfOk result (λ goes_on. goes_on ≡ true → IsStepping world.now state.new) }
 {
     let before = state.pool().nodes().len();
     let outcome = take(alloc, world, state, choice, bounds)?;
@@ -357,25 +291,6 @@ fn append_taken(
     append_held(alloc, world, state, outcome, into)
 }
 
-/// The alternatives of the next step, which is one of ints or one on references.
-fn choices(
-    alloc: Global,
-    world: &World,
-    state: &SymState,
-    bounds: &Bounds,
-) -> RowResult<Vec<Choice>>
-    requires { IsHeapReached world.now state.now }
-    ensures { IfOk result (λ choices. choices.items ≡ (if next_is_int world.now state.now then int_choices world.now state.now bounds.now else reference_choices world.now state.now bounds.now)) }
-{
-    heap_methods_stay();
-    let choices = if state.next_is_int(world) {
-        choices_int(alloc, world, state, bounds).ok()
-    } else {
-        choices_ref(alloc, world, state, bounds).ok()
-    };
-    choices.ok_or(RowStop::NoMemory)
-}
-
 /// Which alternative is taken: the only one, or that of the next decision.
 fn place_of(choices: &[Choice], decisions: &[u32], taken: &mut usize) -> Option<usize> {
     if choices.len() == 1 {
@@ -384,72 +299,4 @@ fn place_of(choices: &[Choice], decisions: &[u32], taken: &mut usize) -> Option<
     let decision = decisions.get(*taken)?;
     *taken = taken.saturating_add(1);
     Some(*decision as usize)
-}
-
-/// Takes an alternative of the next step.
-fn take(
-    alloc: Global,
-    world: &World,
-    state: &mut SymState,
-    choice: &Choice,
-    bounds: &Bounds,
-) -> RowResult<Outcome>
-    requires reached { IsHeapReached world.now state.old }
-    requires range { AreInRange bounds.now }
-    requires offered { Has (if next_is_int world.now state.old then int_choices world.now state.old bounds.now else reference_choices world.now state.old bounds.now) choice.now }
-    ensures reached { OnOk result (IsReached world.now state.new) }
-    ensures on { IfOk result (GoesOnReached world.now state.new) }
-{
-    if state.next_is_int(world) {
-        return take_on_ints(alloc, world, state, choice, bounds);
-    }
-    take_on_references(alloc, world, state, choice, bounds)
-}
-
-fn take_on_ints(
-    alloc: Global,
-    world: &World,
-    state: &mut SymState,
-    choice: &Choice,
-    bounds: &Bounds,
-) -> RowResult<Outcome>
-    requires reached { IsHeapReached world.now state.old }
-    requires ints { next_is_int world.now state.old ≡ true }
-    requires offered { Has (int_choices world.now state.old bounds.now) choice.now }
-    ensures reached { OnOk result (IsReached world.now state.new) }
-    ensures on { IfOk result (GoesOnReached world.now state.new) }
-{
-    heap_methods_stay();
-    match take_int(alloc, world, state, choice, bounds) {
-        Ok(outcome) => Ok(outcome),
-        Err(_) => Err(RowStop::NoMemory),
-    }
-}
-
-fn take_on_references(
-    alloc: Global,
-    world: &World,
-    state: &mut SymState,
-    choice: &Choice,
-    bounds: &Bounds,
-) -> RowResult<Outcome>
-    requires reached { IsHeapReached world.now state.old }
-    requires range { AreInRange bounds.now }
-    requires references { next_is_int world.now state.old ≡ false }
-    requires offered { Has (reference_choices world.now state.old bounds.now) choice.now }
-    ensures reached { OnOk result (IsReached world.now state.new) }
-    ensures on { IfOk result (GoesOnReached world.now state.new) }
-{
-    heap_methods_stay();
-    match take_ref(alloc, world, state, choice, bounds) {
-        Ok(outcome) => Ok(outcome),
-        Err(_) => Err(RowStop::NoMemory),
-    }
-}
-
-/// Whether another step comes behind the outcome. Then the state behind it is one from which steps lead on.
-fn goes_on(outcome: &Outcome) -> bool
-    ensures { (world : World) (state : State) → result ≡ true → GoesOnReached world state outcome.now → IsHeapReached world state }
-{
-    matches!(outcome, Outcome::Asks | Outcome::Goes)
 }

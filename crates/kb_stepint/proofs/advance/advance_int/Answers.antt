@@ -10,7 +10,7 @@ look_at-look-requires c = reached_terms c.args.world.now c.args.state.now c.requ
 
 -- the next step is one of ints
 pub take_told-requires-clause-at : goal.take_told-requires-clause-at
-take_told-requires-clause-at c = record { reached = c.requires.reached; unhandled = c.requires.unhandled; next = c.requires.int }
+take_told-requires-clause-at c = record { reached = c.requires.reached; next = c.requires.int }
 
 pub returns-in_ok-choices-in-Some-clause-advanced : goal.returns-in_ok-choices-in-Some-clause-advanced
 returns-in_ok-choices-in-Some-clause-advanced c =

@@ -4,8 +4,8 @@ use Rattle.kb_frames.specs.Lent.{locals_of, stack_of}
 use Rattle.kb_frames.specs.State.{State}
 use Rattle.kb_ways.specs.Needs.{IsFor}
 use Rattle.kb_ways.specs.Ways.{Goes, went}
-use Rattle.kb_stepref.specs.Fields.{put_in}
-use Rattle.kb_stepref.proofs.PutSteps.{put_is_for, put_stage}
+use Rattle.kb_ways.specs.Slots.{put_in}
+use Rattle.kb_ways.proofs.SlotLaws.{put_is_for, put_stage}
 use Rattle.kb_stepref.proofs.fields.put_kept.Goals as goal
 
 pub returns : goal.returns

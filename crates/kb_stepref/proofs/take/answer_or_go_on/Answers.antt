@@ -11,6 +11,7 @@ use Rattle.kb_ways.specs.Turns.{told}
 use Rattle.kb_ways.specs.Ways.{Take}
 use Rattle.kb_stepref.specs.Choices.{alternatives}
 use Rattle.kb_stepref.specs.Effects.{plan_of}
+use Rattle.kb_stepref.specs.Questions.{asked_by}
 use Rattle.kb_stepref.proofs.take.answer_or_go_on.Goals as goal
 
 pub take_answer-requires-clause-asks : goal.take_answer-requires-clause-asks
@@ -27,11 +28,11 @@ take_next-requires-clause-nothing c = c.requires.look.question ∙ c.in-None.is
 pub returns-in-Some : goal.returns-in-Some
 returns-in-Some c =
     subst (λ (take : Take). IfOk c.take_answer.result (λ (outcome : Outcome). told c.take_answer.new.state outcome ≡ take))
-    (ap (λ (asks : Option Question). option_map_or (answers plan_of c.args.world.now c.args.bounds.now c.args.choice.now c.args.state.now) asks (takes_next plan_of c.args.world.now c.args.bounds.now Only c.args.state.now))
+    (ap (λ (asks : Option Question). option_map_or (answers (asked_by c.args.bounds.now) plan_of c.args.world.now c.args.bounds.now c.args.choice.now c.args.state.now) asks (takes_next plan_of c.args.world.now c.args.bounds.now Only c.args.state.now))
     (sym (c.requires.look.question ∙ c.in-Some.is))) c.take_answer.ensures
 
 pub returns-in-None : goal.returns-in-None
 returns-in-None c =
     subst (λ (take : Take). IfOk c.take_next.result (λ (outcome : Outcome). told c.take_next.new.state outcome ≡ take))
-    (ap (λ (asks : Option Question). option_map_or (answers plan_of c.args.world.now c.args.bounds.now c.args.choice.now c.args.state.now) asks (takes_next plan_of c.args.world.now c.args.bounds.now Only c.args.state.now))
+    (ap (λ (asks : Option Question). option_map_or (answers (asked_by c.args.bounds.now) plan_of c.args.world.now c.args.bounds.now c.args.choice.now c.args.state.now) asks (takes_next plan_of c.args.world.now c.args.bounds.now Only c.args.state.now))
     (sym (c.requires.look.question ∙ c.in-None.is))) c.take_next.ensures

@@ -1,0 +1,14 @@
+pub mod OperandLaws
+pub mod ArrayLaws
+pub mod CountLaws
+pub mod LoadLaws
+pub mod StoreLaws
+pub mod LengthLaws
+pub mod MakeLaws
+pub mod PlanLaws
+pub mod ToldLaws
+pub mod ReadLaws
+pub mod StoreSteps
+pub mod ChoosingLaws
+pub mod HeldLaws
+pub mod OfferLaws

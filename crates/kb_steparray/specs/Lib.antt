@@ -1,0 +1,4 @@
+pub mod Operands
+pub mod Arrays
+pub mod Questions
+pub mod Effects

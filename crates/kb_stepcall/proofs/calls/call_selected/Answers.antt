@@ -1,0 +1,5 @@
+use Rattle.kb_stepcall.proofs.calls.call_selected.Goals as goal
+
+-- a receiver that is null throws
+pub returns-in-Null : goal.returns-in-Null
+returns-in-Null c = rw (← c.in-Null.ensures) c.throws.ensures
