@@ -39,7 +39,7 @@ ROWS += [(f"--method Figure.{name} Figure.class Disc.class", ["Disc"] * 2, range
 
 # of each folder the methods, their class files, the types of the objects, and the ints; bounds stand behind a method
 OF_MODEL = {
-    "calls": [
+    ".": [
         ("H.g(LH;)I", "H S A B", ["H", "A", "B"], [0]),
         ("J.g(LJ;)I", "J Face", ["J"], [0]),
         ("Frames.down(I)I depth=4", "Frames", [], range(-1, 4)),
@@ -66,6 +66,18 @@ OF_MODEL = {
         ("Branch.has(LBranch;I)Z k=2", "Branch", ["Branch"] * 3, range(3)),
         ("Branch.with(LBranch;I)LBranch; k=2", "Branch", ["Branch"] * 2, range(3)),
         ("Term.by(LTerm;LVisitor;)I k=2", "Term Leaf Pair Visitor Total Count", ["Pair", "Leaf", "Leaf", "Total", "Count"], range(2)),
+        ("Thrown.c(I)I", "Thrown", [], range(-1, 2)),
+        ("Thrown.front(I)I", "Thrown", [], range(-1, 2)),
+        ("Thrown.other(LThrown;)V", "Thrown", ["Thrown"], [0]),
+        ("Given.x(Ljava/lang/RuntimeException;)V", "Given", ["java/lang/RuntimeException"], [0]),
+        ("Callers.through(I)I", "Callers Own", [], range(-1, 2)),
+        ("Callers.again(I)I", "Callers Own", [], range(-1, 2)),
+        ("Callers.given(LOwn;)LOwn;", "Callers Own", ["Own", "Own"], range(2)),
+        ("Handled.divided(I)I", "Handled Failure", ["Handled"], range(-1, 2)),
+        ("Handled.nested(II)I", "Handled Failure", [], range(-1, 2)),
+        ("Handled.either(LHandled;I)I", "Handled Failure", ["Handled"], range(-1, 2)),
+        ("Handled.own(I)I", "Handled Failure", [], range(-1, 2)),
+        ("Parser.parsed(LParser;)I", "Parser Failure Token", ["Parser", "Token", "Token"], range(4)),
     ],
     "arrays": [
         ("Arrays.get([II)I", "Arrays", ["[I:0", "[I:2"], range(-1, 3)),
@@ -95,23 +107,12 @@ OF_MODEL = {
         ("Round.isNamed(Ljava/lang/Object;)Z array=0", "Box Form Round Plain", ["Round", "Plain", "[LForm;:0"], [1]),
     ],
     "throws": [
-        ("Thrown.c(I)I", "Thrown", [], range(-1, 2)),
-        ("Thrown.front(I)I", "Thrown", [], range(-1, 2)),
-        ("Thrown.other(LThrown;)V", "Thrown", ["Thrown"], [0]),
-        ("Given.x(Ljava/lang/RuntimeException;)V", "Given", ["java/lang/RuntimeException"], [0]),
-        ("Callers.through(I)I", "Callers Own", [], range(-1, 2)),
-        ("Callers.again(I)I", "Callers Own", [], range(-1, 2)),
-        ("Callers.given(LOwn;)LOwn;", "Callers Own", ["Own", "Own"], range(2)),
         ("Failing.outsideBelow([II)I", "Failing", ["[I:0", "[I:2"], range(-1, 3)),
         ("Failing.storedBelow([Ljava/lang/Object;Ljava/lang/Object;)I array=1", "Failing",
          ["[LFailing;:1", "Failing", "java/lang/Object"], [0]),
         ("Failing.negativeBelow(I)I alloc=2", "Failing", [], range(-2, 4)),
         ("Failing.castBelow(Ljava/lang/Object;)I array=0", "Failing", ["Failing", "java/lang/Object", "[I:0"], [1]),
-        ("Handled.divided(I)I", "Handled Failure", ["Handled"], range(-1, 2)),
-        ("Handled.nested(II)I", "Handled Failure", [], range(-1, 2)),
-        ("Handled.either(LHandled;I)I", "Handled Failure", ["Handled"], range(-1, 2)),
-        ("Handled.own(I)I", "Handled Failure", [], range(-1, 2)),
-        ("Parser.parsed(LParser;)I array=2", "Parser Failure", ["Parser", "[I:2"], range(4)),
+        ("Failing.either(LFailing;I)I", "Failing", ["Failing"], range(-1, 2)),
     ],
 }
 
