@@ -95,7 +95,8 @@ def solved(pool, when):
     """Values of variables that meet the conditions, by the variables' numbers, or None where no values do.
 
     Comparisons of variables, constants, and sums and differences with a constant are decided wholly. Other operations may have
-    any value at first; then a few values of their variables are tried, and where none serves nothing is said.
+    any value at first, remainders and what is masked any in their range; then a few values of their variables are tried, and where
+    none serves nothing is said.
     """
     kinds = {}
     for term, _ in when:
@@ -164,7 +165,19 @@ class Facts:
             self.add_shifted(term, operands[0], 0)
         elif op != "var":
             self.others.append(term)
+            if op == "rem" and constants[1]:
+                self.add_remainder(term, operands[0], abs(constants[1]))
+            elif op == "and" and constants[1] is not None and constants[1] >= 0:
+                self.facts.append([[(term, ZERO, constants[1]), (ZERO, term, 0)]])
         return term
+
+    def add_remainder(self, term, of, divisor):
+        """The term is what is left of another one: that one itself, or less than the divisor and of its sign."""
+        number, more = self.sum_of(of)
+        itself = [(number, ZERO, divisor - 1 - more), (ZERO, number, more), (term, number, more), (number, term, -more)]
+        above = [(ZERO, number, more - divisor), (term, ZERO, divisor - 1), (ZERO, term, 0)]
+        below = [(number, ZERO, -1 - more), (term, ZERO, 0), (ZERO, term, divisor - 1)]
+        self.facts.append([itself, above, below])
 
     def add_shifted(self, term, of, by):
         """The term is another one with a constant added, which may wrap."""
