@@ -49,7 +49,7 @@ def run_tests(harness, data, files, tests):
         (Path(folder) / "fronts").write_text("".join(f"{line}\n" for line in fronts))
         # a class that a row does not give is there for the virtual machine
         words = ["java", *UNVERIFIED, f"-Dliterals={literals}", "-cp", harness]
-        words += [WRITTEN.stem, Path(folder) / "fronts", folder, data]
+        words += [WRITTEN.stem, Path(folder) / "fronts", folder, (data / files[0]).parent]
         return run(*words, stdout=subprocess.PIPE).stdout.decode()
 
 

@@ -11,15 +11,20 @@ what it wrote.
 With --program FILE the whole of `stdout` is what that program writes; but only what is judged may change. Without it, a row
 that `stdout` lacks is written with values of the model's own.
 
-Usage: examples/explore/make.py [--program FILE]
+With --whole the rows are those of the folder `whole`, of methods that the program does not explore yet, and no class files are
+written.
+
+Usage: examples/explore/make.py [--program FILE | --whole]
 It needs javac and java of a JDK 17.
 """
 
 import argparse
 import re
+import shutil
 import subprocess
 import sys
 import tempfile
+from dataclasses import dataclass
 from pathlib import Path
 
 from java_runs import as_met, compile_harness, run, run_tests
@@ -32,6 +37,7 @@ HERE = Path(__file__).resolve().parent
 ROOT = HERE.parent.parent
 CRATE = ROOT / "crates" / "kiasan_rows"
 DATA = CRATE / "data"
+STEPS = ROOT / "crates" / "step_rows" / "data"
 SOURCES = ("Search.java", "Queue.java", "Types.java")
 ASSEMBLED = {"Node.asm": "worked_node.class", "A.asm": "kept.class", "Odd.asm": "Odd.class", "Other.asm": "Other.class"}
 # samples of so many blocks
@@ -44,6 +50,22 @@ TESTS = {
     "Figure.class Disc.class Box.class Bare.class": "types.tests",
     "Node.class": "nodes.tests",
     "Odd.class Other.class": "odd_heaps.tests",
+    "steps/Links.class": "links.tests",
+    "steps/Branch.class": "branches.tests",
+    "steps/Term.class steps/Leaf.class steps/Pair.class steps/Visitor.class steps/Total.class steps/Count.class": "visitors.tests",
+    "steps/Figure.class steps/Strip.class steps/Board.class": "figures.tests",
+    "steps/Counter.class steps/Resettable.class steps/Steps.class steps/Jumps.class": "counters.tests",
+    "steps/Outer.class steps/Outer$Inner.class": "nested.tests",
+    "steps/Account.class steps/Savings.class": "accounts.tests",
+    "steps/Handled.class steps/Failure.class": "handled.tests",
+    "steps/Parser.class steps/Failure.class steps/Token.class": "parsers.tests",
+    "steps/Failing.class": "failing.tests",
+    "steps/Sorted.class": "sorted.tests",
+    "steps/Ring.class": "rings.tests",
+    "steps/Lexer.class": "lexers.tests",
+    "steps/Box.class steps/Form.class steps/Round.class steps/Plain.class": "boxes.tests",
+    "Tree.class Heavy.class": "heavy_trees.tests",
+    "Sorts.class": "sorts.tests",
 }
 
 sys.path.insert(0, str(HERE.parent / "assemble"))
@@ -64,31 +86,49 @@ def write_class_files():
 # ---- what rows write
 
 
+@dataclass
+class Table:
+    """A table of rows, with what it comes to and its class files and tests; and whether its methods are of every instruction, of
+    which the program does not explore all yet."""
+
+    rows: Path
+    stdout: Path
+    data: Path
+    is_whole: bool = False
+
+    def words(self):
+        return [row for row in self.rows.read_text().splitlines() if row and not row.startswith("#")]
+
+    def before(self):
+        """What stands there of each row, and its status."""
+        text = self.stdout.read_text() if self.stdout.exists() else ""
+        return {words: (lines, status) for words, lines, status in rows_of(text)}
+
+    def of_model(self, words):
+        """What a row writes with the model's own values, and the status."""
+        command, *rest = words.split(" ")
+        if command == "replay":
+            count = (self.data / rest[1]).read_text().count("test ")
+            return [f"test {number} passes" for number in range(count)] + [f"tests {count} passed {count} differed 0"], "status 0"
+        try:
+            explorer, leaves = explored(self.data, words.split(" "), self.is_whole)
+        except NotExplored:
+            return ["refused 50"], "status 5"
+        status = status_of(leaves)
+        if command == "diagrams":
+            return [line for leaf in leaves for line in leaf.diagram()], status
+        assert all(leaf.kind != "undecided" for leaf in leaves), f"{words}: a log is the program's own"
+        if command == "tests":
+            return [line for leaf in leaves if leaf.kind == "ended" for line in leaf.test(leaf.state.values)], status
+        lines = report_head(explorer.method.target, explorer.bounds)
+        lines += [line for leaf in leaves for line in leaf.block(leaf.state.values)]
+        return lines + [report_end(leaves)], status
+
+
 def of_program(program, words):
     """What the program writes for the words of a row, and the status."""
     told = subprocess.run([program, *words.split(" ")], cwd=DATA, stdin=subprocess.DEVNULL, capture_output=True)
     return told.stdout.decode().splitlines(), f"status {told.returncode}"
-
-
-def of_model(words):
-    """The same with the model's own values."""
-    command, *rest = words.split(" ")
-    if command == "replay":
-        count = (DATA / rest[1]).read_text().count("test ")
-        return [f"test {number} passes" for number in range(count)] + [f"tests {count} passed {count} differed 0"], "status 0"
-    try:
-        explorer, leaves = explored(DATA, words.split(" "))
-    except NotExplored:
-        return ["refused 50"], "status 5"
-    status = status_of(leaves)
-    if command == "diagrams":
-        return [line for leaf in leaves for line in leaf.diagram()], status
-    assert all(leaf.kind != "undecided" for leaf in leaves), f"{words}: a log is the program's own"
-    if command == "tests":
-        return [line for leaf in leaves if leaf.kind == "ended" for line in leaf.test(leaf.state.values)], status
-    lines = report_head(explorer.method.target, explorer.bounds)
-    lines += [line for leaf in leaves for line in leaf.block(leaf.state.values)]
-    return lines + [report_end(leaves)], status
 
 
 # ---- tests on a Java virtual machine
@@ -99,19 +139,19 @@ def files_of(words):
     return re.sub(r"^\w+ (--\S+ \S+ )*", "", words)
 
 
-def judge_tests(tests, harness):
+def judge_tests(tests, data, harness):
     """Runs the tests of all rows, those of the same class files together, and writes those that are replayed."""
     for files in sorted({files_of(words) for words in tests}):
         rows = {words: row for words, row in tests.items() if files_of(words) == files}
         able = [test for row in rows.values() for test in row if not any(line.startswith("illtyped ") for line in test)]
         if not able:
             continue
-        told, stated = run_tests(harness, DATA, files.split(" "), able), text_of(map(as_met, able))
+        told, stated = run_tests(harness, data, files.split(" "), able), text_of(map(as_met, able))
         assert told == stated, f"{files}: {first_difference(told.splitlines(), stated.splitlines())}"
         print(f"{len(able)} ends of runs are those of a Java virtual machine: {files}")
         if files in TESTS:
             written = [row for words, row in rows.items() if words.startswith("tests ")]
-            (DATA / TESTS[files]).write_text(text_of(test for row in written for test in row))
+            (data / TESTS[files]).write_text(text_of(test for row in written for test in row))
 
 
 def text_of(parts):
@@ -122,32 +162,50 @@ def text_of(parts):
 # ---- all of it
 
 
-def main():
-    options = argparse.ArgumentParser(description="Writes and judges the rows of explorations from unknown heaps.")
-    options.add_argument("--program", type=Path, help="a built program, whose output the rows are")
-    program = options.parse_args().program
-    write_class_files()
-    table = [row for row in (DATA / "rows").read_text().splitlines() if not row.startswith("#")]
-    before = {words: (lines, status) for words, lines, status in rows_of((CRATE / "stdout").read_text())}
+def write_table(table, program):
+    """Writes what the rows come to, and judges it."""
+    words_of, before = table.words(), table.before()
     if program:
-        rows = {words: of_program(program.resolve(), words) for words in table if not words.startswith("replay ")}
+        rows = {words: of_program(program, words) for words in words_of if not words.startswith("replay ")}
     else:
-        rows = {words: before.get(words) or of_model(words) for words in table if not words.startswith("replay ")}
-    tests = {words: judge(DATA, words, *row) for words, row in rows.items() if is_judged(words, *row)}
+        rows = {words: before.get(words) or table.of_model(words) for words in words_of if not words.startswith("replay ")}
+    tests = {words: judge(table.data, words, *row, table.is_whole) for words, row in rows.items() if is_judged(words, *row)}
     judged = set(tests)
     with tempfile.TemporaryDirectory() as harness:
         compile_harness(harness)
-        judge_tests(tests, harness)
-    for words in table:
+        judge_tests(tests, table.data, harness)
+    for words in words_of:
         if words.startswith("replay "):
-            rows[words] = of_program(program.resolve(), words) if program else before.get(words) or of_model(words)
+            rows[words] = of_program(program, words) if program else before.get(words) or table.of_model(words)
             if words.removeprefix("replay --tests ").split(" ")[0] in TESTS.values():
-                assert rows[words] == of_model(words), words
+                assert rows[words] == table.of_model(words), words
                 judged.add(words)
     for words, row in rows.items():
         assert words in judged or row == before[words], f"{words}: {row}"
-    (CRATE / "stdout").write_text(text_of([f"> {words}", *rows[words][0], rows[words][1]] for words in table))
-    print(f"{len(judged)} of {len(table)} rows are as the model says")
+    table.stdout.write_text(text_of([f"> {words}", *rows[words][0], rows[words][1]] for words in words_of))
+    print(f"{len(judged)} of {len(words_of)} rows are as the model says")
+
+
+def write_whole():
+    """Writes what the rows of `whole` come to. Their class files are those of the crate, and in a folder `steps` those of step_rows."""
+    with tempfile.TemporaryDirectory() as folder:
+        data = Path(folder) / "data"
+        shutil.copytree(DATA, data)
+        shutil.copytree(STEPS, data / "steps")
+        write_table(Table(HERE / "whole" / "rows", HERE / "whole" / "stdout", data, is_whole=True), None)
+
+
+def main():
+    options = argparse.ArgumentParser(description="Writes and judges the rows of explorations from unknown heaps.")
+    which = options.add_mutually_exclusive_group()
+    which.add_argument("--program", type=Path, help="a built program, whose output the rows are")
+    which.add_argument("--whole", action="store_true", help="the rows of methods that the program does not explore yet")
+    words = options.parse_args()
+    if words.whole:
+        write_whole()
+        return
+    write_class_files()
+    write_table(Table(DATA / "rows", CRATE / "stdout", DATA), words.program and words.program.resolve())
 
 
 if __name__ == "__main__":

@@ -34,12 +34,12 @@ def is_judged(words, lines, status):
     return words.split(" ")[0] in ("explore", "tests", "diagrams") and status != "status 6" and not is_refused
 
 
-def judge(folder, words, lines, status):
+def judge(folder, words, lines, status, is_whole):
     """Fails unless the model writes these lines for the words of a row, but for what a solver may choose: values must meet the
     path's conditions, and a log that leaves them undecided must be fresh. The tests of the paths that have ended, each as its
     lines."""
     try:
-        explorer, leaves = explored(folder, words.split(" "))
+        explorer, leaves = explored(folder, words.split(" "), is_whole)
     except NotExplored:
         assert (lines, status) == (["refused 50"], "status 5"), words
         return []

@@ -187,20 +187,23 @@ class Facts:
 
     def bounds_met(self, more):
         """Bounds that keep those and one alternative of each fact, or None."""
-        facts = sorted(self.facts, key=len)
-
-        def met(bounds, place):
-            if place == len(facts):
-                return bounds
-            for alternative in facts[place]:
-                kept = bounds.also(alternative)
-                found = kept and met(kept, place + 1)
-                if found:
-                    return found
-            return None
-
         first = Bounds({}).also(more)
-        return first and met(first, 0)
+        return first and met(first, sorted(self.facts, key=len))
+
+
+def met(bounds, facts):
+    """Bounds that keep these and one alternative of each fact, or None. The fact that leaves the fewest ways on comes first."""
+    left = [(fact, ways) for fact in facts if not bounds.tells(fact) for ways in [list(filter(bounds.allows, fact))]]
+    if not left:
+        return bounds
+    chosen, ways = min(left, key=lambda pair: len(pair[1]))
+    others = [fact for fact, _ in left if fact is not chosen]
+    for alternative in ways:
+        kept = bounds.also(alternative)
+        found = kept and met(kept, others)
+        if found:
+            return found
+    return None
 
 
 class Bounds:
@@ -208,6 +211,14 @@ class Bounds:
 
     def __init__(self, most):
         self.most = most
+
+    def tells(self, fact):
+        """Whether an alternative of the fact is kept already."""
+        return any(all(self.most.get((a, b), INFINITE) <= limit for a, b, limit in alternative) for alternative in fact)
+
+    def allows(self, alternative):
+        """Whether no bound of the alternative alone is against these."""
+        return all(self.most.get((b, a), INFINITE) + limit >= 0 for a, b, limit in alternative)
 
     def also(self, bounds):
         """These bounds and more, or None where no numbers keep them."""

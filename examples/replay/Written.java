@@ -1,11 +1,12 @@
 import java.io.IOException;
 import java.io.UncheckedIOException;
+import java.lang.invoke.MethodHandle;
+import java.lang.invoke.MethodHandles;
+import java.lang.invoke.MethodType;
 import java.lang.reflect.Array;
 import java.lang.reflect.Field;
-import java.lang.reflect.InvocationTargetException;
 import java.lang.reflect.Method;
 import java.lang.reflect.Modifier;
-import java.lang.invoke.MethodType;
 import java.net.URL;
 import java.net.URLClassLoader;
 import java.nio.file.Files;
@@ -94,14 +95,21 @@ class Written {
     }
 
     private String ending(Method method, List<Object> args) throws Exception {
-        boolean isStatic = Modifier.isStatic(method.getModifiers());
-        Object receiver = isStatic ? null : args.remove(0);
+        MethodHandle handle = handle(method);
+        Object result;
         try {
-            Object result = method.invoke(receiver, args.toArray());
-            return method.getReturnType() == void.class ? "returns" : "returns " + text(result);
-        } catch (InvocationTargetException e) {
-            return "throws " + text(e.getCause());
+            result = handle.invokeWithArguments(args);
+        } catch (Throwable e) {
+            return "throws " + text(e);
         }
+        return method.getReturnType() == void.class ? "returns" : "returns " + text(result);
+    }
+
+    /** The method itself, also where the receiver's class overrides it. */
+    private static MethodHandle handle(Method method) throws Exception {
+        Class<?> owner = method.getDeclaringClass();
+        MethodHandles.Lookup lookup = MethodHandles.privateLookupIn(owner, MethodHandles.lookup());
+        return Modifier.isStatic(method.getModifiers()) ? lookup.unreflect(method) : lookup.unreflectSpecial(method, owner);
     }
 
     private Object empty(String type, int length) throws Exception {
