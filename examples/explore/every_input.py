@@ -8,7 +8,8 @@ instance where its slots hold what the path has seen and the conditions hold (do
 those of the model says make.py.
 
 Usage: examples/explore/every_input.py [--of-model]
-With --of-model the methods are those that the program does not explore yet, of the folders of examples/steps.
+With --of-model the methods are those that the program does not explore yet, of the class files of crates/step_rows: calls, handlers
+and arrays.
 It needs javac and java of a JDK 17.
 """
 
@@ -17,14 +18,13 @@ import random
 import sys
 import tempfile
 from math import prod
-from pathlib import Path
 
-from java_runs import as_met, compile_harness, run_tests, write_class_files
-from make import DATA, ROOT, text_of
+from java_runs import as_met, compile_harness, run_tests
+from make import DATA, STEPS, text_of
 from model import Explorer, World, explored
 from texts import NULL
 
-MOST, MOST_OF_MODEL = 3000, 300
+MOST, MOST_OF_MODEL, MOST_ELEMENTS = 3000, 300, 3
 LIST = ["contains(I)Z", "insert(LList;LList;)LList;", "remove(LList;I)LList;", "reverse(LList;)LList;", "rotate(LList;)LList;"]
 QUEUE = ["insert(LCell;)V", "remove()LCell;", "reverse()V", "rotate()V", "contains(I)Z"]
 SEARCH = ["contains(I)Z", "insert(LSearch;)Z", "removeLeast(LSearch;)LSearch;", "rotate()LSearch;"]
@@ -37,84 +37,79 @@ ROWS += [(f"--method Search.{name} Search.class", ["Search"] * 3, range(3)) for 
 ROWS += [(f"--method Figure.{name} Figure.class Disc.class", ["Disc"] * 2, range(2)) for name in FIGURE]
 
 
-# of each folder the methods, their class files, the types of the objects, and the ints; bounds stand behind a method
-OF_MODEL = {
-    ".": [
-        ("H.g(LH;)I", "H S A B", ["H", "A", "B"], [0]),
-        ("J.g(LJ;)I", "J Face", ["J"], [0]),
-        ("Frames.down(I)I depth=4", "Frames", [], range(-1, 4)),
-        ("Frames.waits(I)I", "Frames", [], range(-2, 3)),
-        ("Top.ofTop(LTop;)I", "Top Mid Low Hidden Fixed Unflagged Bare", [*"Top Mid Low Hidden Fixed Unflagged".split()], [0]),
-        ("Equal.both(LEqual;LSame;)Z", "Equal Same", ["Equal", "Same", "Same"], [0]),
-        ("Equal.same(LSame;LSame;)Z", "Equal Same", ["Same", "Same"], [0]),
-        ("Equal.ofRun(LSame;)I", "Equal Same", ["Same"], [0]),
-        ("Equal.array([I[I)Z array=1", "Equal Same", ["[I:0", "[I:1", "[I:0"], [0]),
-        ("Made.hung(LMade;)LMade;", "Base Made", ["Made", "Made"], range(2)),
-        ("Made.holds(LMade;)LMade;", "Base Made", ["Made", "Made"], range(2)),
-        ("Board.shown(LBoard;)I", "Figure Strip Board", ["Board", "Board"], range(2)),
-        ("Figure.twice()I", "Figure Strip Board", ["Strip", "Board"], range(3)),
-        ("Figure.greater(LFigure;LFigure;)LFigure;", "Figure Strip Board", ["Strip", "Board"], range(3)),
-        ("Jumps.both(LCounter;)I", "Counter Resettable Steps Jumps", ["Steps", "Jumps"], range(2)),
-        ("Jumps.again(LResettable;)I", "Counter Resettable Steps Jumps", ["Steps", "Jumps"], range(2)),
-        ("Outer.ask(I)I", "Outer Outer$Inner", ["Outer"], range(2)),
-        ("Savings.moved(LSavings;I)I", "Account Savings", ["Savings", "Savings"], [0, 3, 12]),
-        ("Links.sum()I", "Links", ["Links"] * 3, range(2)),
-        ("Links.copied(LLinks;)LLinks;", "Links", ["Links"] * 3, range(2)),
-        ("Links.reversed(LLinks;LLinks;)LLinks;", "Links", ["Links"] * 3, [0]),
-        ("Links.isEven()Z", "Links", ["Links"] * 3, [0]),
-        ("Branch.size(LBranch;)I", "Branch", ["Branch"] * 3, [0]),
-        ("Branch.has(LBranch;I)Z k=2", "Branch", ["Branch"] * 3, range(3)),
-        ("Branch.with(LBranch;I)LBranch; k=2", "Branch", ["Branch"] * 2, range(3)),
-        ("Term.by(LTerm;LVisitor;)I k=2", "Term Leaf Pair Visitor Total Count", ["Pair", "Leaf", "Leaf", "Total", "Count"], range(2)),
-        ("Thrown.c(I)I", "Thrown", [], range(-1, 2)),
-        ("Thrown.front(I)I", "Thrown", [], range(-1, 2)),
-        ("Thrown.other(LThrown;)V", "Thrown", ["Thrown"], [0]),
-        ("Given.x(Ljava/lang/RuntimeException;)V", "Given", ["java/lang/RuntimeException"], [0]),
-        ("Callers.through(I)I", "Callers Own", [], range(-1, 2)),
-        ("Callers.again(I)I", "Callers Own", [], range(-1, 2)),
-        ("Callers.given(LOwn;)LOwn;", "Callers Own", ["Own", "Own"], range(2)),
-        ("Handled.divided(I)I", "Handled Failure", ["Handled"], range(-1, 2)),
-        ("Handled.nested(II)I", "Handled Failure", [], range(-1, 2)),
-        ("Handled.either(LHandled;I)I", "Handled Failure", ["Handled"], range(-1, 2)),
-        ("Handled.own(I)I", "Handled Failure", [], range(-1, 2)),
-        ("Parser.parsed(LParser;)I", "Parser Failure Token", ["Parser", "Token", "Token"], range(4)),
-    ],
-    "arrays": [
-        ("Arrays.get([II)I", "Arrays", ["[I:0", "[I:2"], range(-1, 3)),
-        ("Arrays.a(I)I alloc=2", "Arrays", [], range(-2, 4)),
-        ("Arrays.twice([II)I array=2", "Arrays", ["[I:2", "[I:3"], range(-1, 3)),
-        ("Arrays.neither([II)I", "Arrays", ["[I:2", "[I:3"], range(-1, 4)),
-        ("Arrays.of(I)I", "Arrays", [], range(-1, 3)),
-        ("Part.store([LPart;LPart;)V array=1", "Part Half Shown", ["[LPart;:1", "[LPart;:0", "Part", "Half"], [0]),
-        ("Part.any([LPart;I)LPart; array=2", "Part Half Shown", ["[LPart;:2", "Part", "Half"], range(-1, 3)),
-        ("Part.nested([[I)I array=1", "Part Half Shown", ["[[I:1", "[I:1", "[I:0"], range(2)),
-        ("Part.kept(LPart;)LPart; array=1", "Part Half Shown", ["Part", "Half", "[LPart;:1"], [0]),
-        ("Part.toShown(Ljava/lang/Object;)LShown; array=0", "Part Half Shown", ["Part", "java/lang/Object", "[I:0"], [0]),
-        ("Part.toParts(Ljava/lang/Object;)[LPart; array=0", "Part Half Shown", ["Half", "[LPart;:0", "[LShown;:0"], [0]),
-        ("Texts.both(I)Ljava/lang/String;", "Texts Others", [], range(2)),
-        ("Texts.compared(Ljava/lang/Object;)I", "Texts Others", ["Texts", "java/lang/String"], [0]),
-        ("Sorted.bubble([I)V", "Sorted", ["[I:3", "[I:2"], range(3)),
-        ("Sorted.inserted([II)[I array=2", "Sorted", ["[I:2", "[I:1"], range(3)),
-        ("Sorted.count([Z)I", "Sorted", ["[Z:3"], [0]),
-        ("Sorted.trace([[I)I array=2", "Sorted", ["[[I:2", "[I:2", "[I:1"], range(2)),
-        ("Sorted.identity(I)[[I alloc=2", "Sorted", [], range(-1, 4)),
-        *((f"Ring.{name} array=2", "Ring", ["Ring", "[Ljava/lang/Object;:2", "java/lang/Object"], range(-1, 3))
-          for name in ("put(Ljava/lang/Object;)Z", "take()Ljava/lang/Object;")),
-        ("Lexer.next()I array=2", "Lexer", ["Lexer", "[I:2"], [-1, 0, 1, 43, 48, 49]),
-        ("Box.taken(LBox;)LRound; array=0", "Box Form Round Plain", ["Box", "Round", "Plain"], [1]),
-        ("Box.size(LBox;)I array=0", "Box Form Round Plain", ["Box", "Round", "Plain"], [1]),
-        ("Round.kind(Ljava/lang/Object;)I array=2", "Box Form Round Plain", ["Round", "Plain", "[LForm;:2"], [1]),
-        ("Round.isNamed(Ljava/lang/Object;)Z array=0", "Box Form Round Plain", ["Round", "Plain", "[LForm;:0"], [1]),
-    ],
-    "throws": [
-        ("Failing.outsideBelow([II)I", "Failing", ["[I:0", "[I:2"], range(-1, 3)),
-        ("Failing.storedBelow([Ljava/lang/Object;Ljava/lang/Object;)I array=1", "Failing",
-         ["[LFailing;:1", "Failing", "java/lang/Object"], [0]),
-        ("Failing.negativeBelow(I)I alloc=2", "Failing", [], range(-2, 4)),
-        ("Failing.castBelow(Ljava/lang/Object;)I array=0", "Failing", ["Failing", "java/lang/Object", "[I:0"], [1]),
-        ("Failing.either(LFailing;I)I", "Failing", ["Failing"], range(-1, 2)),
-    ],
-}
+# methods that only the model explores, their class files, the types of the objects, and the ints; bounds stand behind a method. An
+# array with * for its length has each length up to MOST_ELEMENTS in turn
+OF_MODEL = [
+    ("H.g(LH;)I", "H S A B", ["H", "A", "B"], [0]),
+    ("J.g(LJ;)I", "J Face", ["J"], [0]),
+    ("Frames.down(I)I depth=4", "Frames", [], range(-1, 4)),
+    ("Frames.waits(I)I", "Frames", [], range(-2, 3)),
+    ("Top.ofTop(LTop;)I", "Top Mid Low Hidden Fixed Unflagged Bare", [*"Top Mid Low Hidden Fixed Unflagged".split()], [0]),
+    ("Equal.both(LEqual;LSame;)Z", "Equal Same", ["Equal", "Same", "Same"], [0]),
+    ("Equal.same(LSame;LSame;)Z", "Equal Same", ["Same", "Same"], [0]),
+    ("Equal.ofRun(LSame;)I", "Equal Same", ["Same"], [0]),
+    ("Equal.array([I[I)Z array=1", "Equal Same", ["[I:0", "[I:1", "[I:0"], [0]),
+    ("Made.hung(LMade;)LMade;", "Base Made", ["Made", "Made"], range(2)),
+    ("Made.holds(LMade;)LMade;", "Base Made", ["Made", "Made"], range(2)),
+    ("Board.shown(LBoard;)I", "Figure Strip Board", ["Board", "Board"], range(2)),
+    ("Figure.twice()I", "Figure Strip Board", ["Strip", "Board"], range(3)),
+    ("Figure.greater(LFigure;LFigure;)LFigure;", "Figure Strip Board", ["Strip", "Board"], range(3)),
+    ("Jumps.both(LCounter;)I", "Counter Resettable Steps Jumps", ["Steps", "Jumps"], range(2)),
+    ("Jumps.again(LResettable;)I", "Counter Resettable Steps Jumps", ["Steps", "Jumps"], range(2)),
+    ("Outer.ask(I)I", "Outer Outer$Inner", ["Outer"], range(2)),
+    ("Savings.moved(LSavings;I)I", "Account Savings", ["Savings", "Savings"], [0, 3, 12]),
+    ("Links.sum()I", "Links", ["Links"] * 3, range(2)),
+    ("Links.copied(LLinks;)LLinks;", "Links", ["Links"] * 3, range(2)),
+    ("Links.reversed(LLinks;LLinks;)LLinks;", "Links", ["Links"] * 3, [0]),
+    ("Links.isEven()Z", "Links", ["Links"] * 3, [0]),
+    ("Branch.size(LBranch;)I", "Branch", ["Branch"] * 3, [0]),
+    ("Branch.has(LBranch;I)Z k=2", "Branch", ["Branch"] * 3, range(3)),
+    ("Branch.with(LBranch;I)LBranch; k=2", "Branch", ["Branch"] * 2, range(3)),
+    ("Term.by(LTerm;LVisitor;)I k=2", "Term Leaf Pair Visitor Total Count", ["Pair", "Leaf", "Leaf", "Total", "Count"], range(2)),
+    ("Thrown.c(I)I", "Thrown", [], range(-1, 2)),
+    ("Thrown.front(I)I", "Thrown", [], range(-1, 2)),
+    ("Thrown.other(LThrown;)V", "Thrown", ["Thrown"], [0]),
+    ("Given.x(Ljava/lang/RuntimeException;)V", "Given", ["java/lang/RuntimeException"], [0]),
+    ("Callers.through(I)I", "Callers Own", [], range(-1, 2)),
+    ("Callers.again(I)I", "Callers Own", [], range(-1, 2)),
+    ("Callers.given(LOwn;)LOwn;", "Callers Own", ["Own", "Own"], range(2)),
+    ("Handled.divided(I)I", "Handled Failure", ["Handled"], range(-1, 2)),
+    ("Handled.nested(II)I", "Handled Failure", [], range(-1, 2)),
+    ("Handled.either(LHandled;I)I", "Handled Failure", ["Handled"], range(-1, 2)),
+    ("Handled.own(I)I", "Handled Failure", [], range(-1, 2)),
+    ("Parser.parsed(LParser;)I", "Parser Failure Token", ["Parser", "Token", "Token"], range(4)),
+    ("Arrays.get([II)I", "Arrays", ["[I:*"], range(-1, 4)),
+    ("Arrays.a(I)I alloc=2", "Arrays", [], range(-2, 4)),
+    ("Arrays.twice([II)I array=2", "Arrays", ["[I:*"], range(-1, 4)),
+    ("Arrays.neither([II)I", "Arrays", ["[I:*"], range(-1, 4)),
+    ("Arrays.of(I)I", "Arrays", [], range(-1, 3)),
+    ("Part.store([LPart;LPart;)V array=1", "Part Half Shown", ["[LPart;:*", "[LShown;:1", "Part", "Half"], [0]),
+    ("Part.any([LPart;I)LPart; array=2", "Part Half Shown", ["[LPart;:*", "Part", "Half"], range(-1, 4)),
+    ("Part.nested([[I)I array=1", "Part Half Shown", ["[[I:*", "[I:1", "[I:0"], range(2)),
+    ("Part.kept(LPart;)LPart; array=1", "Part Half Shown", ["Part", "Half", "[LPart;:1"], [0]),
+    ("Part.toShown(Ljava/lang/Object;)LShown; array=0", "Part Half Shown", ["Part", "java/lang/Object", "[I:0"], [0]),
+    ("Part.toParts(Ljava/lang/Object;)[LPart; array=0", "Part Half Shown", ["Half", "[LPart;:0", "[LShown;:0"], [0]),
+    ("Texts.both(I)Ljava/lang/String;", "Texts Others", [], range(2)),
+    ("Texts.compared(Ljava/lang/Object;)I", "Texts Others", ["Texts", "java/lang/String"], [0]),
+    ("Sorted.bubble([I)V", "Sorted", ["[I:*"], range(4)),
+    ("Sorted.inserted([II)[I", "Sorted", ["[I:*"], range(4)),
+    ("Sorted.count([Z)I", "Sorted", ["[Z:*"], [0]),
+    ("Sorted.trace([[I)I array=2", "Sorted", ["[[I:*", "[I:2", "[I:1"], range(2)),
+    ("Sorted.identity(I)[[I alloc=2", "Sorted", [], range(-1, 4)),
+    *((f"Ring.{name} array=2", "Ring", ["Ring", "[Ljava/lang/Object;:*", "java/lang/Object"], range(-1, 4))
+      for name in ("put(Ljava/lang/Object;)Z", "take()Ljava/lang/Object;")),
+    ("Lexer.next()I", "Lexer", ["Lexer", "[I:*"], [-1, 0, 1, 43, 48, 49]),
+    ("Box.taken(LBox;)LRound; array=0", "Box Form Round Plain", ["Box", "Round", "Plain"], [1]),
+    ("Box.size(LBox;)I array=0", "Box Form Round Plain", ["Box", "Round", "Plain"], [1]),
+    ("Round.kind(Ljava/lang/Object;)I array=2", "Box Form Round Plain", ["Round", "Plain", "[LForm;:2"], [1]),
+    ("Round.isNamed(Ljava/lang/Object;)Z array=0", "Box Form Round Plain", ["Round", "Plain", "[LForm;:0"], [1]),
+    ("Failing.outsideBelow([II)I", "Failing", ["[I:*"], range(-1, 4)),
+    ("Failing.storedBelow([Ljava/lang/Object;Ljava/lang/Object;)I array=1", "Failing",
+     ["[LFailing;:1", "Failing", "java/lang/Object"], [0]),
+    ("Failing.negativeBelow(I)I alloc=2", "Failing", [], range(-2, 4)),
+    ("Failing.castBelow(Ljava/lang/Object;)I array=0", "Failing", ["Failing", "java/lang/Object", "[I:0"], [1]),
+    ("Failing.either(LFailing;I)I", "Failing", ["Failing"], range(-1, 2)),
+]
 
 
 def parsed(kind):
@@ -215,29 +210,35 @@ def judge(words, types, ints, harness):
     assert run_tests(harness, DATA, words.split(" ")[words.count("--") * 2 :], tests) == text_of(map(as_met, tests)), words
 
 
-def judge_of_model(folder, rows, harness):
+def lengths_in_turn(types):
+    """The types with each length of the arrays that have none, or once as they are."""
+    if not any(kind.endswith(":*") for kind in types):
+        return [types]
+    return [[kind.replace("*", str(length)) for kind in types] for length in range(MOST_ELEMENTS + 1)]
+
+
+def judge_of_model(harness):
     """Methods that only the model explores, those of the same class files together."""
-    with tempfile.TemporaryDirectory() as data:
-        write_class_files(ROOT / "examples" / "steps" / folder, Path(data))
-        for names in dict.fromkeys(names for _, names, *_ in rows):
-            tests, files = [], [f"{name}.class" for name in names.split(" ")]
-            world = World([(Path(data) / file).read_bytes() for file in files])
-            for words, _, types, ints in (row for row in rows if row[1] == names):
-                target, *bounds = words.split(" ")
-                pairs = [bound.split("=") for bound in bounds]
-                explorer = Explorer(world, target, {name: int(number) for name, number in pairs})
-                tests += tests_of(words, explorer, explorer.explored(), types, ints, MOST_OF_MODEL)
-            told, stated = run_tests(harness, Path(data), files, tests), text_of(map(as_met, tests))
-            for own, other in zip(stated.split("end\n"), told.split("end\n"), strict=True):
-                assert own == other, f"a virtual machine says\n{other}and the model\n{own}"
+    for names in dict.fromkeys(names for _, names, *_ in OF_MODEL):
+        tests, files = [], [f"{name}.class" for name in names.split(" ")]
+        world = World([(STEPS / file).read_bytes() for file in files])
+        for words, _, types, ints in (row for row in OF_MODEL if row[1] == names):
+            target, *bounds = words.split(" ")
+            pairs = [bound.split("=") for bound in bounds]
+            explorer = Explorer(world, target, {name: int(number) for name, number in pairs})
+            leaves = explorer.explored()
+            for each in lengths_in_turn(types):
+                tests += tests_of(words, explorer, leaves, each, ints, MOST_OF_MODEL)
+        told, stated = run_tests(harness, STEPS, files, tests), text_of(map(as_met, tests))
+        for own, other in zip(stated.split("end\n"), told.split("end\n"), strict=True):
+            assert own == other, f"a virtual machine says\n{other}and the model\n{own}"
 
 
 def main():
     with tempfile.TemporaryDirectory() as harness:
         compile_harness(harness)
         if "--of-model" in sys.argv:
-            for folder, rows in OF_MODEL.items():
-                judge_of_model(folder, rows, harness)
+            judge_of_model(harness)
             return
         for words, types, ints in ROWS:
             judge(words, types, ints, harness)
