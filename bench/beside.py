@@ -121,23 +121,24 @@ def heaps_rows(_, folder):
 
 
 def unknown_heaps_rows(program, folder):
-    def explored(family, k):
-        loads = unknown_heaps.loads_of(family, k)
+    def explored(family, size):
+        loads = unknown_heaps.loads_of(family, size)
         whole = [Command(tuple(load.words("explore")), 0, ends=f"{load.end}\n".encode()) for load in loads]
         return Row(whole, [Command(tuple(load.none()), 4, begins=b"refused 45 ") for load in loads])
 
-    def replayed(family, k):
-        loads = unknown_heaps.loads_of(family, k)
+    def replayed(family, size):
+        loads = unknown_heaps.loads_of(family, size)
         texts = [unknown_heaps.tests_of(program, load) * TIMES for load in loads]
-        names = [f"{family} {k} {number}" for number in range(len(loads))]
+        names = [f"{family} {size} {number}" for number in range(len(loads))]
         runs = [replay(written_tests(folder, name, text), load.files) for name, text, load in zip(names, texts, loads)]
         none = written_tests(folder, "no tests", "")
         return Row(runs, [replay(none, load.files) for load in loads])
 
-    for family in unknown_heaps.FAMILIES:
-        for k in unknown_heaps.DEPTHS:
-            yield f"{family}, k {k}", partial(explored, family, k)
-            yield f"{family}, k {k}: replay", partial(replayed, family, k)
+    for family in unknown_heaps.families_of(program):
+        for size in unknown_heaps.FAMILIES[family].sizes:
+            label = f"{family}, {unknown_heaps.FAMILIES[family].bound} {size}"
+            yield label, partial(explored, family, size)
+            yield f"{label}: replay", partial(replayed, family, size)
 
 
 ROWS = {"link": link_rows, "reach": reach_rows, "heaps": heaps_rows, "unknown_heaps": unknown_heaps_rows}

@@ -18,6 +18,7 @@ from collections import defaultdict
 from dataclasses import dataclass, field
 from pathlib import Path
 
+from figures import add_words, judge_figures
 from straight import ROOT
 
 
@@ -127,10 +128,11 @@ def shares_of(words, patterns):
     return whole, shares
 
 
-def print_both(description, parts, print_times, print_shares, **besides):
+def print_both(description, parts, print_times, print_shares, is_compared=False, **besides):
     """Prints the times of the built program, and with --shares the shares of these parts too, by the words of the command line.
 
-    Each of the besides is a further word, with what help says of it and what prints from the times and the runs.
+    Where the shares have figures that can be compared, --compare and --keep print the shares alone. Each of the besides is a further
+    word, with what help says of it and what prints from the times and the runs.
     """
     options = argparse.ArgumentParser(description=description)
     options.add_argument("--runs", type=int, default=5, help="runs of each method (5)")
@@ -138,11 +140,16 @@ def print_both(description, parts, print_times, print_shares, **besides):
     options.add_argument("--shares", action="store_true", help=f"print the shares of {parts}")
     for word, (told, _) in besides.items():
         options.add_argument(f"--{word}", action="store_true", help=told)
+    if is_compared:
+        add_words(options)
     given = options.parse_args()
     if not given.program.is_file():
         sys.exit(f"{given.program} is not there: run ./kiasan once")
     program = given.program.resolve()
     with tempfile.TemporaryDirectory() as folder:
+        if is_compared and (given.compare or given.keep):
+            judge_figures(print_shares(program, Path(folder)), given)
+            return
         times = print_times(program, Path(folder), given.runs)
         for word in filter(vars(given).get, besides):
             besides[word][1](times, given.runs)

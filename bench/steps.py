@@ -19,9 +19,10 @@ instruction, since that is what a state and its arguments take.
 A method that the steps do not carry out yet is named, and not timed.
 
 With --count the instructions of the processor are counted in place of the time, by valgrind, one run each: what else the machine
-does changes nothing there.
+does changes nothing there. With --compare FILE they are compared with those of FILE, which is kept in bench/figures: where one is
+more than a twentieth above it, the script says so and fails. --keep FILE writes such a file.
 
-Usage: bench/steps.py [--runs N] [--count] [FAMILY ...]
+Usage: bench/steps.py [--runs N] [--count | --compare FILE | --keep FILE] [FAMILY ...]
 It needs javac. The first run takes as long as the proofs of kb_steps and the crates below it take, unless a checkout on this
 machine has kept them.
 """
@@ -36,6 +37,7 @@ from functools import cached_property
 from pathlib import Path
 
 from built import Program, with_main, with_those_below
+from figures import add_words, judge_figures
 from straight import ROOT
 
 sys.path.insert(0, str(ROOT / "examples" / "explore"))
@@ -511,8 +513,9 @@ def rows_of(classes):
     }
 
 
-def print_rows(family, loads, scale, of_lists):
-    """A line for each method: instructions, what one takes, and that beside one of `lists`. The mean of all is given back."""
+def print_rows(family, loads, scale, of_lists, figures):
+    """A line for each method: instructions, what one takes, which is a figure, and that beside one of `lists`. The mean of all is given
+    back."""
     print(f"{family:<32} {'instructions':>12} {scale.unit + ' of one':>20} {'of lists':>9}")
     total = [0, 0]
     for load in loads:
@@ -522,12 +525,12 @@ def print_rows(family, loads, scale, of_lists):
         taken = load.model[1] - 1
         cost = load.cost(scale)
         total = [total[0] + cost, total[1] + taken]
-        each = cost / taken
+        each = figures[load.target] = cost / taken
         print(f"{load.target:<32} {taken:>12} {each:>20.1f} {each / of_lists if of_lists else 1:>9.2f}", flush=True)
     return total[0] / total[1] if total[1] else None
 
 
-def print_alternatives(classes, scale):
+def print_alternatives(classes, scale, figures):
     """What a choice among places, and one among lengths, takes with what is taken."""
     print(f"{'alternatives':<32} {'of a choice':>12} {scale.unit + ' of a run':>20}")
     loads = [walked(classes, "get([II)I", objects=1, bounds={"array": size, "alloc": 16}) for size in (0, 1, 4, 16)]
@@ -536,10 +539,11 @@ def print_alternatives(classes, scale):
         if not load.is_carried_out():
             print(f"{load.target:<32} {'is not carried out yet':>12}")
             continue
-        print(f"{load.target:<32} {load.model[2]:>12} {load.cost(scale):>20.0f}", flush=True)
+        cost = figures[f"{load.target} of {load.model[2]}"] = load.cost(scale)
+        print(f"{load.target:<32} {load.model[2]:>12} {cost:>20.0f}", flush=True)
 
 
-def print_passes(classes, scale):
+def print_passes(classes, scale, figures):
     """What the throw takes that passes frames, with what comes behind it."""
     print(f"{'frames that a throw leaves':<32} {'frames':>12} {scale.unit + ' of a throw':>20}")
     for frames in (2, 20, 200):
@@ -547,7 +551,8 @@ def print_passes(classes, scale):
         if not load.is_carried_out():
             print(f"{load.target:<32} {'is not carried out yet':>12}")
             continue
-        print(f"{load.target:<32} {frames:>12} {load.cost(scale, load.model[3]):>20.0f}", flush=True)
+        cost = figures[load.target] = load.cost(scale, load.model[3])
+        print(f"{load.target:<32} {frames:>12} {cost:>20.0f}", flush=True)
 
 
 PROGRAM = Program(name=NAME, crates=CRATES, source=SOURCE, trial=["Walked.none()I", "1", "1", "1", "0", "1"], proofs=PROOFS)
@@ -557,23 +562,25 @@ def main():
     words = argparse.ArgumentParser(description="Times the steps of an exploration.")
     words.add_argument("--runs", type=int, default=3, help="runs of each, of which the fastest counts (3)")
     words.add_argument("--count", action="store_true", help="count the processor's instructions, by valgrind")
+    add_words(words)
     words.add_argument("families", nargs="*", metavar="FAMILY", help=f"of {', '.join(FAMILIES)} (all)")
     options = words.parse_args()
     if options.runs < 1 or not set(options.families) <= set(FAMILIES):
         sys.exit("--runs must be at least 1, and the families those of the first lines")
-    scale = Counter() if options.count else Clock(options.runs)
+    scale = Counter() if options.count or options.compare or options.keep else Clock(options.runs)
     PROGRAM.build(__file__)
     classes = class_files()
-    rows = rows_of(classes)
-    of_lists = print_rows("lists", rows.pop("lists"), scale, None)
+    rows, figures = rows_of(classes), {}
+    of_lists = print_rows("lists", rows.pop("lists"), scale, None, figures)
     for family, loads in rows.items():
         if options.families and family not in options.families:
             continue
-        print_rows(family, loads, scale, of_lists)
+        print_rows(family, loads, scale, of_lists, figures)
         if family == "arrays":
-            print_alternatives(classes, scale)
+            print_alternatives(classes, scale, figures)
         if family == "throws":
-            print_passes(classes, scale)
+            print_passes(classes, scale, figures)
+    judge_figures(figures, options)
 
 
 if __name__ == "__main__":

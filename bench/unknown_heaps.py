@@ -1,10 +1,13 @@
 #!/usr/bin/env python3
-"""Times explorations from unknown heaps: methods of lists, trees and queues, with k from 1 to 5, by the built program.
+"""Times explorations from unknown heaps by the built program: methods of lists, trees and queues with k from 1 to 5, and methods that
+call, throw and use arrays: binary search, insertion sort, a circular buffer, a hash table with open addressing and a parser with
+arrays of up to 1 to 6 elements, and recursion over a tree with k from 1 to 5. A family that the program does not explore yet is
+named, and not timed.
 
-The methods are those of examples/List.java, examples/explore/Search.java and examples/explore/Queue.java. How many paths a
-method has, and how many instructions of it an exploration takes, is what examples/explore/model.py says; each report's last
+The methods are those of examples/List.java, examples/explore/Search.java and examples/explore/Queue.java, and of the sources in
+bench/containers. How many paths a method has, and how many instructions of it an exploration takes, is what examples/explore/model.py says; each report's last
 line is compared with that. Instructions that several paths share are taken once. Where each path takes time in proportion
-to its own length and heap, and the solver is left out, the time for an instruction does not grow with k.
+to its own length and heap, and the solver is left out, the time for an instruction does not grow with the bound.
 
 Beside it stands the replay of the tests of the same paths, each many times, for an instruction that the machine carries
 out. The reading of the tests is in it.
@@ -21,8 +24,11 @@ beside the second what a replay takes for a test, and what the machine alone doe
 machine takes is what replays of the same tests take more that are cut off later: before the last instruction of each, and
 behind the first.
 
-Usage: bench/unknown_heaps.py [--runs N] [--program FILE] [--shares]
-Build the program first, by running ./kiasan once.
+With --compare FILE the two figures of each row are compared with those of FILE, which is kept in bench/figures: where one is more than
+a twentieth above it, the script says so and fails. --keep FILE writes such a file. Either takes what --shares takes.
+
+Usage: bench/unknown_heaps.py [--runs N] [--program FILE] [--shares | --compare FILE | --keep FILE]
+Build the program first, by running ./kiasan once. It needs javac.
 """
 
 import subprocess
@@ -31,6 +37,7 @@ from dataclasses import dataclass
 from functools import cache
 from pathlib import Path
 
+from containers import class_files
 from cut_tests import write_cut
 from replay import processor_seconds
 from shares import COPYING, FORMULAS, PATHS, SOLVING, WRITING, print_both, shares_of
@@ -41,40 +48,67 @@ from model import explored  # noqa: E402
 from texts import report_end  # noqa: E402
 
 DATA = ROOT / "crates" / "kiasan_rows" / "data"
-DEPTHS = [1, 2, 3, 4, 5]
 # how often each test is replayed where times are taken, and where instructions are counted
 TIMES, COUNTED = 200, 20
 LIST = ["contains(I)Z", "insert(LList;LList;)LList;", "remove(LList;I)LList;", "reverse(LList;)LList;", "rotate(LList;)LList;"]
 SEARCH = ["contains(I)Z", "insert(LSearch;)Z", "removeLeast(LSearch;)LSearch;", "rotate()LSearch;"]
 QUEUE = ["contains(I)Z", "insert(LCell;)V", "remove()LCell;", "reverse()V", "rotate()V"]
+RECURSION = ["contains(LSearchTree;I)Z", "insert(LSearchTree;I)LSearchTree;", "least(LSearchTree;)I"]
+
+
+@dataclass(frozen=True)
+class Family:
+    """Methods of the first class, with the classes that they need, and the bound that is raised. The class files are those of
+    kiasan_rows, or else made of the sources in bench/containers."""
+
+    classes: list
+    methods: list
+    bound: str = "k"
+    is_kept: bool = False
+
+    @property
+    def sizes(self):
+        return range(1, 6) if self.bound == "k" else range(1, 7)
+
+    def files(self):
+        return [str(DATA / f"{name}.class") for name in self.classes] if self.is_kept else class_files(self.classes)
+
+
 FAMILIES = {
-    "lists": ("List", ["List.class"], LIST),
-    "trees": ("Search", ["Search.class"], SEARCH),
-    "queues": ("Queue", ["Queue.class", "Cell.class"], QUEUE),
+    "lists": Family(["List"], LIST, is_kept=True),
+    "trees": Family(["Search"], SEARCH, is_kept=True),
+    "queues": Family(["Queue", "Cell"], QUEUE, is_kept=True),
+    "search": Family(["Ints"], ["search([II)I"], "array"),
+    "sort": Family(["Ints"], ["sort([I)V"], "array"),
+    "rings": Family(["IntRing"], ["offer(I)Z", "poll()I"], "array"),
+    "tables": Family(["OpenTable"], ["contains(I)Z", "add(I)Z"], "array"),
+    "recursion": Family(["SearchTree"], RECURSION),
+    "parser": Family(["Sums", "Sums$Fault"], ["value([I)I"], "array"),
 }
-TIMED = ["k", "paths", "instructions", "ms", "paths/s", "us/path", "ns/instruction", "of a replay"]
+TIMED = ["bound", "paths", "instructions", "ms", "paths/s", "us/path", "ns/instruction", "of a replay"]
 PARTS = {"copying": COPYING, "formulas": FORMULAS, "solving": SOLVING, "paths": PATHS, "writing": WRITING}
 SHARED = ["copying", "formulas", "solving", "listing", "left"]
-BESIDE = ["exploring", "replay", "machine", "to replay", "to machine", "to k 2"]
+BESIDE = ["exploring", "replay", "machine", "to replay", "to machine", "to 2"]
 
 
 @dataclass
 class Load:
-    """A method with a k: the words that explore it, its files, and what the model says of it."""
+    """A method with a bound: the words that explore it, its files, and what the model says of it."""
 
     target: str
     files: list
-    k: int
+    bound: str
+    size: int
 
     def __post_init__(self):
-        explorer, leaves = explored(DATA, self.words("explore"))
+        explorer, leaves = explored(DATA, self.words("explore"), is_whole=True)
         self.paths, self.end, self.taken = len(leaves), report_end(leaves), explorer.instructions_taken
         # what the machine carries out in each test of a path that has ended
         self.lengths = [leaf.length for leaf in leaves if leaf.kind == "ended"]
         self.tests, self.run = len(self.lengths), sum(self.lengths)
 
     def words(self, command):
-        return [command, "--method", self.target, "--k", str(self.k), *self.files]
+        return [command, "--method", self.target, f"--{self.bound}", str(self.size), *self.files]
 
     def none(self):
         """The words for a method that is not there."""
@@ -84,9 +118,24 @@ class Load:
         return ["replay", "--tests", str(tests), *self.files]
 
 
-def loads_of(family, k):
-    owner, files, methods = FAMILIES[family]
-    return [Load(f"{owner}.{method}", [str(DATA / name) for name in files], k) for method in methods]
+@cache
+def loads_of(name, size):
+    family = FAMILIES[name]
+    return [Load(f"{family.classes[0]}.{method}", family.files(), family.bound, size) for method in family.methods]
+
+
+@cache
+def families_of(program):
+    """The names of the families that the program explores; the others are told."""
+    found = []
+    for name, family in FAMILIES.items():
+        words = [str(program), "explore", "--method", f"{family.classes[0]}.{family.methods[0]}", *family.files()]
+        run = subprocess.run(words, stdin=subprocess.DEVNULL, capture_output=True)
+        if run.stdout == b"refused 50\n":
+            print(f"{name} is not explored yet", flush=True)
+        else:
+            found.append(name)
+    return found
 
 
 def tests_of(program, load):
@@ -123,15 +172,15 @@ def seconds_of(program, folder, load, runs):
 
 
 def print_times(program, folder, runs):
-    for family in FAMILIES:
-        print(f"{family}\n" + " ".join(f"{name:>14}" for name in TIMED))
-        for k in DEPTHS:
-            loads = loads_of(family, k)
+    for family in families_of(program):
+        print(f"{family}, {FAMILIES[family].bound}\n" + " ".join(f"{name:>14}" for name in TIMED))
+        for size in FAMILIES[family].sizes:
+            loads = loads_of(family, size)
             times = [seconds_of(program, folder, load, runs) for load in loads]
             exploring, replaying = map(sum, zip(*times))
             paths, taken, run = (sum(getattr(load, name) for load in loads) for name in ("paths", "taken", "run"))
             rate = paths / exploring if exploring else float("inf")
-            cells = [f"{k}", f"{paths}", f"{taken}", f"{exploring * 1e3:.2f}", f"{rate:.0f}", f"{exploring * 1e6 / paths:.2f}"]
+            cells = [f"{size}", f"{paths}", f"{taken}", f"{exploring * 1e3:.2f}", f"{rate:.0f}", f"{exploring * 1e6 / paths:.2f}"]
             cells += [f"{exploring * 1e9 / taken:.1f}", f"{replaying * 1e9 / run:.1f}" if run else ""]
             print(" ".join(f"{cell:>14}" for cell in cells), flush=True)
 
@@ -190,8 +239,8 @@ class Figures:
     path: list
 
 
-def figures_of(program, folder, family, k):
-    loads = loads_of(family, k)
+def figures_of(program, folder, family, size):
+    loads = loads_of(family, size)
     count, replay = exploring(program, loads), sum(replaying(program, folder, load) for load in loads)
     took, carried = map(sum, zip(*(between(program, folder, load) for load in loads)))
     taken, run, paths, tests = (sum(getattr(load, name) for load in loads) for name in ("taken", "run", "paths", "tests"))
@@ -203,28 +252,32 @@ def figures_of(program, folder, family, k):
     )
 
 
-def print_row(family, k, cells):
-    print(f"{family:<8} {k:>2} " + " ".join(f"{cell:>11}" for cell in cells))
+def print_row(family, size, cells):
+    print(f"{family:<10} {size:>2} " + " ".join(f"{cell:>11}" for cell in cells))
 
 
 def print_beside(title, rows):
-    """A line of each row: what exploring, a replay and the machine take, the ratios to both, and that to k 2."""
+    """A line of each row: what exploring, a replay and the machine take, the ratios to both, and that to the bound 2."""
     print(title)
-    print_row("", "k", BESIDE)
-    for (family, k), (own, replay, machine) in rows.items():
+    print_row("", "", BESIDE)
+    for (family, size), (own, replay, machine) in rows.items():
         ratios = [own / replay, own / machine, own / rows[family, 2][0]]
-        print_row(family, k, [f"{count:.0f}" for count in (own, replay, machine)] + [f"{of:.2f}" for of in ratios])
+        print_row(family, size, [f"{count:.0f}" for count in (own, replay, machine)] + [f"{of:.2f}" for of in ratios])
 
 
 def print_shares(program, folder):
-    rows = {(family, k): figures_of(program, folder, family, k) for family in FAMILIES for k in DEPTHS}
+    """Prints all of it; the two figures of each row are given back, by their names."""
+    names = [(family, size) for family in families_of(program) for size in FAMILIES[family].sizes]
+    rows = {(family, size): figures_of(program, folder, family, size) for family, size in names}
     print("shares of all instructions of the processor")
-    print_row("", "k", SHARED)
-    for (family, k), figures in rows.items():
-        print_row(family, k, [f"{share:.2%}" for share in figures.shares])
+    print_row("", "", SHARED)
+    for (family, size), figures in rows.items():
+        print_row(family, size, [f"{share:.2%}" for share in figures.shares])
     print_beside("for an instruction that is taken: what is left of exploring it", {row: rows[row].instruction for row in rows})
     print_beside("for a path that is listed, and its test: path, input and text", {row: rows[row].path for row in rows})
+    kinds = ("instruction", "path")
+    return {f"{family} {size} {kind}": getattr(rows[family, size], kind)[0] for family, size in rows for kind in kinds}
 
 
 if __name__ == "__main__":
-    print_both("Times explorations from unknown heaps.", "copying, formulas, solving and listing", print_times, print_shares)
+    print_both("Times explorations from unknown heaps.", "copying, formulas, solving and listing", print_times, print_shares, is_compared=True)

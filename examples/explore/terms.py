@@ -121,7 +121,7 @@ def solved(pool, when):
 
 # the number 0 among those whose differences are bounded, and the values that are tried
 ZERO = None
-TRIED = [0, 1, -1, 2, -2, 3, 7, 100, LARGEST, LEAST]
+TRIED = [0, 1, -1, 2, -2, 3, 7, 100, LARGEST, LEAST, 4, 5]
 
 
 class Facts:
