@@ -1,7 +1,7 @@
 #!/usr/bin/env python3
-"""Explores twenty methods of lists, trees, heaps, hash tables, tries, parsers and matrices at the default bounds (containers/ has their
-sources), by the built program, and prints of each how many paths there are and how they end, the time of the processor, and the
-most memory that the program had.
+"""Explores twenty methods of lists, trees, heaps, hash tables, tries, parsers and matrices at the default bounds, by the built
+program, and prints of each how many paths there are and how they end, the time of the processor, and the most memory that the
+program had. The folder containers has their sources.
 
 A method that the program does not explore yet is named, with its refusal.
 

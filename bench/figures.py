@@ -13,7 +13,7 @@ ALLOWED = 1 / 20
 def add_words(options):
     """The words of a command line that keep figures, or compare with what was kept."""
     which = options.add_mutually_exclusive_group()
-    which.add_argument("--compare", type=Path, metavar="FILE", help="fail where a figure is more than a twentieth above that of FILE")
+    which.add_argument("--compare", type=Path, metavar="FILE", help="fail where a figure is more than a twentieth above FILE's")
     which.add_argument("--keep", type=Path, metavar="FILE", help="write the figures into FILE")
 
 
@@ -36,7 +36,8 @@ def compare(figures, kept, file):
     faults = [f"{name} is missing" for name in kept if name not in figures]
     faults += [f"{name} is not in {file}" for name in figures if name not in kept]
     both = [(name, figure, kept[name]) for name, figure in figures.items() if name in kept]
-    faults += [f"{name} is {figure:.1f}, and {before:.1f} in {file}" for name, figure, before in both if figure > before * (1 + ALLOWED)]
+    above = [(name, figure, before) for name, figure, before in both if figure > before * (1 + ALLOWED)]
+    faults += [f"{name} is {figure:.1f}, and {before:.1f} in {file}" for name, figure, before in above]
     if faults:
         sys.exit("\n".join(faults))
     print(f"{len(both)} figures are at most a twentieth above those of {file}")

@@ -1,13 +1,14 @@
 #!/usr/bin/env python3
-"""Times explorations from unknown heaps by the built program: methods of lists, trees and queues with k from 1 to 5, and methods that
-call, throw and use arrays: binary search, insertion sort, a circular buffer, a hash table with open addressing and a parser with
-arrays of up to 1 to 6 elements, and recursion over a tree with k from 1 to 5. A family that the program does not explore yet is
-named, and not timed.
+"""Times explorations from unknown heaps by the built program: methods of lists, trees and queues with k from 1 to 5; and methods
+that call, throw and use arrays: binary search, insertion sort, a circular buffer, a hash table with open addressing and a parser
+with arrays of up to 1 to 6 elements, and recursion over a tree with k from 1 to 5. A family that the program does not explore yet
+is named, and not timed.
 
 The methods are those of examples/List.java, examples/explore/Search.java and examples/explore/Queue.java, and of the sources in
-bench/containers. How many paths a method has, and how many instructions of it an exploration takes, is what examples/explore/model.py says; each report's last
-line is compared with that. Instructions that several paths share are taken once. Where each path takes time in proportion
-to its own length and heap, and the solver is left out, the time for an instruction does not grow with the bound.
+bench/containers. How many paths a method has, and how many instructions of it an exploration takes, is what
+examples/explore/model.py says; each report's last line is compared with that. Instructions that several paths share are taken
+once. Where each path takes time in proportion to its own length and heap, and the solver is left out, the time for an instruction
+does not grow with the bound.
 
 Beside it stands the replay of the tests of the same paths, each many times, for an instruction that the machine carries
 out. The reading of the tests is in it.
@@ -24,8 +25,8 @@ beside the second what a replay takes for a test, and what the machine alone doe
 machine takes is what replays of the same tests take more that are cut off later: before the last instruction of each, and
 behind the first.
 
-With --compare FILE the two figures of each row are compared with those of FILE, which is kept in bench/figures: where one is more than
-a twentieth above it, the script says so and fails. --keep FILE writes such a file. Either takes what --shares takes.
+With --compare FILE the two figures of each row are compared with those of FILE, which is kept in bench/figures: where one is
+more than a twentieth above it, the script says so and fails. --keep FILE writes such a file. Either takes what --shares takes.
 
 Usage: bench/unknown_heaps.py [--runs N] [--program FILE] [--shares | --compare FILE | --keep FILE]
 Build the program first, by running ./kiasan once. It needs javac.
@@ -280,4 +281,5 @@ def print_shares(program, folder):
 
 
 if __name__ == "__main__":
-    print_both("Times explorations from unknown heaps.", "copying, formulas, solving and listing", print_times, print_shares, is_compared=True)
+    TOLD = "copying, formulas, solving and listing"
+    print_both("Times explorations from unknown heaps.", TOLD, print_times, print_shares, is_compared=True)

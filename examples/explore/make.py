@@ -40,6 +40,8 @@ DATA = CRATE / "data"
 STEPS = ROOT / "crates" / "step_rows" / "data"
 SOURCES = ("Search.java", "Queue.java", "Types.java")
 ASSEMBLED = {"Node.asm": "worked_node.class", "A.asm": "kept.class", "Odd.asm": "Odd.class", "Other.asm": "Other.class"}
+# classes of the examples that the pages explain
+EXAMPLES = ("Prices", "Sale", "Item", "Book", "Voucher")
 # samples of so many blocks
 SAMPLES = (0, 1, 7)
 # the tests that are replayed: those of all rows of these class files
@@ -66,6 +68,8 @@ TESTS = {
     "steps/Box.class steps/Form.class steps/Round.class steps/Plain.class": "boxes.tests",
     "Tree.class Heavy.class": "heavy_trees.tests",
     "Sorts.class": "sorts.tests",
+    "Prices.class": "prices.tests",
+    "Sale.class Item.class Book.class Voucher.class": "sales.tests",
 }
 
 sys.path.insert(0, str(HERE.parent / "assemble"))
@@ -187,11 +191,14 @@ def write_table(table, program):
 
 
 def write_whole():
-    """Writes what the rows of `whole` come to. Their class files are those of the crate, and in a folder `steps` those of step_rows."""
+    """Writes what the rows of `whole` come to. Their class files are those of the crate and of the examples, and in a folder `steps`
+    those of step_rows."""
     with tempfile.TemporaryDirectory() as folder:
         data = Path(folder) / "data"
         shutil.copytree(DATA, data)
         shutil.copytree(STEPS, data / "steps")
+        for name in EXAMPLES:
+            shutil.copy(HERE.parent / f"{name}.class", data)
         write_table(Table(HERE / "whole" / "rows", HERE / "whole" / "stdout", data, is_whole=True), None)
 
 
