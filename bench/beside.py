@@ -134,7 +134,7 @@ def unknown_heaps_rows(program, folder):
         none = written_tests(folder, "no tests", "")
         return Row(runs, [replay(none, load.files) for load in loads])
 
-    for family in unknown_heaps.families_of(program):
+    for family in unknown_heaps.FAMILIES:
         for size in unknown_heaps.FAMILIES[family].sizes:
             label = f"{family}, {unknown_heaps.FAMILIES[family].bound} {size}"
             yield label, partial(explored, family, size)

@@ -3,8 +3,6 @@
 program, and prints of each how many paths there are and how they end, the time of the processor, and the most memory that the
 program had. The folder containers has their sources.
 
-A method that the program does not explore yet is named, with its refusal.
-
 Usage: bench/containers.py [--runs N] [--program FILE]
 Build the program first, by running ./kiasan once. It needs javac and GNU time.
 """
@@ -49,7 +47,7 @@ def class_files(names):
 
 
 def explored(program, target, files):
-    """The last line of the report, or the refusal; the seconds of the processor, and the kilobytes of memory."""
+    """The last line of the report, the seconds of the processor, and the kilobytes of memory."""
     words = [TIME, "-f", "%U %S %M", str(program), "explore", "--method", target, *files]
     run = subprocess.run(words, stdin=subprocess.DEVNULL, capture_output=True, text=True)
     user, system, memory = run.stderr.split("\n")[-2].split()
@@ -60,7 +58,7 @@ def print_row(program, target, files, runs):
     told = [explored(program, target, files) for _ in range(runs)]
     last, seconds, memory = told[0][0], min(seconds for _, seconds, _ in told), max(memory for *_, memory in told)
     counts = re.fullmatch(r"total (\d+) ended (\d+) cut (\d+) undecided (\d+) open (\d+)", last)
-    cells = [*counts.groups(), f"{seconds * 1e3:.0f}", f"{memory / 1024:.1f}"] if counts else [last]
+    cells = [*counts.groups(), f"{seconds * 1e3:.0f}", f"{memory / 1024:.1f}"]
     print(f"{target:<48} " + " ".join(f"{cell:>9}" for cell in cells), flush=True)
 
 

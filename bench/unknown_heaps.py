@@ -1,8 +1,7 @@
 #!/usr/bin/env python3
 """Times explorations from unknown heaps by the built program: methods of lists, trees and queues with k from 1 to 5; and methods
 that call, throw and use arrays: binary search, insertion sort, a circular buffer, a hash table with open addressing and a parser
-with arrays of up to 1 to 6 elements, and recursion over a tree with k from 1 to 5. A family that the program does not explore yet
-is named, and not timed.
+with arrays of up to 1 to 6 elements, and recursion over a tree with k from 1 to 5.
 
 The methods are those of examples/List.java, examples/explore/Search.java and examples/explore/Queue.java, and of the sources in
 bench/containers. How many paths a method has, and how many instructions of it an exploration takes, is what
@@ -102,7 +101,7 @@ class Load:
     size: int
 
     def __post_init__(self):
-        explorer, leaves = explored(DATA, self.words("explore"), is_whole=True)
+        explorer, leaves = explored(DATA, self.words("explore"))
         self.paths, self.end, self.taken = len(leaves), report_end(leaves), explorer.instructions_taken
         # what the machine carries out in each test of a path that has ended
         self.lengths = [leaf.length for leaf in leaves if leaf.kind == "ended"]
@@ -123,20 +122,6 @@ class Load:
 def loads_of(name, size):
     family = FAMILIES[name]
     return [Load(f"{family.classes[0]}.{method}", family.files(), family.bound, size) for method in family.methods]
-
-
-@cache
-def families_of(program):
-    """The names of the families that the program explores; the others are told."""
-    found = []
-    for name, family in FAMILIES.items():
-        words = [str(program), "explore", "--method", f"{family.classes[0]}.{family.methods[0]}", *family.files()]
-        run = subprocess.run(words, stdin=subprocess.DEVNULL, capture_output=True)
-        if run.stdout == b"refused 50\n":
-            print(f"{name} is not explored yet", flush=True)
-        else:
-            found.append(name)
-    return found
 
 
 def tests_of(program, load):
@@ -173,7 +158,7 @@ def seconds_of(program, folder, load, runs):
 
 
 def print_times(program, folder, runs):
-    for family in families_of(program):
+    for family in FAMILIES:
         print(f"{family}, {FAMILIES[family].bound}\n" + " ".join(f"{name:>14}" for name in TIMED))
         for size in FAMILIES[family].sizes:
             loads = loads_of(family, size)
@@ -268,7 +253,7 @@ def print_beside(title, rows):
 
 def print_shares(program, folder):
     """Prints all of it; the two figures of each row are given back, by their names."""
-    names = [(family, size) for family in families_of(program) for size in FAMILIES[family].sizes]
+    names = [(family, size) for family in FAMILIES for size in FAMILIES[family].sizes]
     rows = {(family, size): figures_of(program, folder, family, size) for family, size in names}
     print("shares of all instructions of the processor")
     print_row("", "", SHARED)

@@ -38,18 +38,6 @@ for _length, _names in {
         LENGTHS[NUMBERS[_name]] = _length
 PRIMITIVES = {4: "boolean", 5: "char", 6: "float", 7: "double", 8: "byte", 9: "short", 10: "int", 11: "long"}
 
-# The instructions that can be explored today, beside ldc and ldc_w of an int (docs/USING.md, 'Methods'). Where an instruction
-# becomes one, its mnemonic comes into this list; where all are, the list and `first_unexplored` go.
-EXPLORED = frozenset(
-    """
-    nop aconst_null iconst_m1 iconst_0 iconst_1 iconst_2 iconst_3 iconst_4 iconst_5 bipush sipush iload iload_0 iload_1 iload_2
-    iload_3 istore istore_0 istore_1 istore_2 istore_3 aload aload_0 aload_1 aload_2 aload_3 astore astore_0 astore_1 astore_2
-    astore_3 pop pop2 dup dup_x1 dup_x2 dup2 dup2_x1 dup2_x2 swap iadd isub imul idiv irem ineg ishl ishr iushr iand ior ixor
-    iinc i2b i2c i2s ifeq ifne iflt ifge ifgt ifle if_icmpeq if_icmpne if_icmplt if_icmpge if_icmpgt if_icmple if_acmpeq
-    if_acmpne ifnull ifnonnull goto goto_w tableswitch lookupswitch getfield putfield ireturn areturn return
-    """.split()
-)
-
 
 def mnemonic(opcode):
     return MNEMONICS[opcode] if opcode < len(MNEMONICS) else "no opcode"
@@ -137,17 +125,3 @@ def in_words(file, code, at):
         operand = ""
     name = mnemonic(code[at])
     return f"{name} {operand}" if operand else name
-
-
-def is_explored(file, code, at):
-    """Whether the instruction at that offset is one of those that can be explored today."""
-    if code[at] in (LDC, LDC_W):
-        return file.tag(entry_of(code, at)) == INTEGER
-    if code[at] == WIDE:
-        return mnemonic(code[at + 1]) in EXPLORED
-    return mnemonic(code[at]) in EXPLORED
-
-
-def first_unexplored(file, code):
-    """The offset of the first instruction that cannot be explored today, or None."""
-    return next((at for at, _ in instructions(code) if not is_explored(file, code, at)), None)

@@ -1,9 +1,8 @@
 """A refusal in words: the cause and what to do, by the page, and between them what the parts of the line stand for."""
 
 from . import slips
-from .accessors import cure
 from .class_file import UTF8, Unfit
-from .instructions import CLASS_USES, entry_of, first_unexplored, in_words, instructions, mnemonic
+from .instructions import CLASS_USES, entry_of, in_words, instructions, mnemonic
 from .kinds import kind_of_file
 from .names import (
     class_of_entry,
@@ -78,7 +77,7 @@ class Parts:
             30: self._other_text,
             45: self._methods_there,
             49: self._so_many,
-            50: self._in_the_way,
+            50: self._not_built,
             60: self._other_text,
             89: lambda: slips.late(self.order, "--tests"),
             95: lambda: slips.late(self.order, "--method"),
@@ -239,27 +238,9 @@ class Parts:
                 continue
         return [source for source in sources if source.name is not None]
 
-    def _in_the_way(self):
-        """The first thing that is not explored today. This goes where everything is."""
-        if self.order.value("--init") == "lazier":
-            return [f"word {self.order.values['--init']} is --init lazier"]
-        text = self.order.value("--method")
-        found = self._found(text)
-        if found is None or found[1].code is None:
-            return []
-        file, method = found
-        if method.code.handlers:
-            handler = method.code.handlers[0]
-            caught = spelled(handler.caught) if handler.caught else "anything"
-            line = method.code.line_at(handler.target)
-            where = f" ({file.source}:{line})" if file.source and line else ""
-            return [f"{text} at {handler.target} handles {caught}{where}, which is not explored yet"]
-        at = first_unexplored(file, method.code.bytes)
-        if at is None:
-            return []
-        place = place_lines(text, file, method.code, at, False)
-        way = cure(self.handed.needs.world, text, file, method.code.bytes, at)
-        return [f"{text} at {at} is {in_words(file, method.code.bytes, at)}, which is not explored yet", *place, *way]
+    def _not_built(self):
+        """What of the words is not built yet."""
+        return [f"word {self.order.values['--init']} is --init lazier"]
 
 
 def left_out_type(method):

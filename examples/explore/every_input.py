@@ -3,19 +3,16 @@
 ended a Java virtual machine ends the run on it as the path states.
 
 The inputs of a method are those whose objects have the types of a row below, with every reference that fits in every slot, and
-a few ints; of more than 3,000, and of methods that only the model explores of more than 300, a part is drawn. An input is an
+a few ints; of more than 3,000, and of methods of step_rows of more than 300, a part is drawn. An input is an
 instance where its slots hold what the path has seen and the conditions hold (docs/PICTURES.md). That the program's reports are
 those of the model says make.py.
 
-Usage: examples/explore/every_input.py [--of-model]
-With --of-model the methods are those that the program does not explore yet, of the class files of crates/step_rows: calls, handlers
-and arrays.
+Usage: examples/explore/every_input.py
 It needs javac and java of a JDK 17.
 """
 
 import itertools
 import random
-import sys
 import tempfile
 from math import prod
 
@@ -24,7 +21,7 @@ from make import DATA, STEPS, text_of
 from model import Explorer, World, explored
 from texts import NULL
 
-MOST, MOST_OF_MODEL, MOST_ELEMENTS = 3000, 300, 3
+MOST, MOST_OF_STEPS, MOST_ELEMENTS = 3000, 300, 3
 LIST = ["contains(I)Z", "insert(LList;LList;)LList;", "remove(LList;I)LList;", "reverse(LList;)LList;", "rotate(LList;)LList;"]
 QUEUE = ["insert(LCell;)V", "remove()LCell;", "reverse()V", "rotate()V", "contains(I)Z"]
 SEARCH = ["contains(I)Z", "insert(LSearch;)Z", "removeLeast(LSearch;)LSearch;", "rotate()LSearch;"]
@@ -37,9 +34,9 @@ ROWS += [(f"--method Search.{name} Search.class", ["Search"] * 3, range(3)) for 
 ROWS += [(f"--method Figure.{name} Figure.class Disc.class", ["Disc"] * 2, range(2)) for name in FIGURE]
 
 
-# methods that only the model explores, their class files, the types of the objects, and the ints; bounds stand behind a method. An
+# methods of the class files of step_rows: calls, handlers and arrays. Their class files, the types of the objects, and the ints; bounds stand behind a method. An
 # array with * for its length has each length up to MOST_ELEMENTS in turn
-OF_MODEL = [
+OF_STEPS = [
     ("H.g(LH;)I", "H S A B", ["H", "A", "B"], [0]),
     ("J.g(LJ;)I", "J Face", ["J"], [0]),
     ("Frames.down(I)I depth=4", "Frames", [], range(-1, 4)),
@@ -217,18 +214,18 @@ def lengths_in_turn(types):
     return [[kind.replace("*", str(length)) for kind in types] for length in range(MOST_ELEMENTS + 1)]
 
 
-def judge_of_model(harness):
-    """Methods that only the model explores, those of the same class files together."""
-    for names in dict.fromkeys(names for _, names, *_ in OF_MODEL):
+def judge_steps(harness):
+    """The methods of step_rows, those of the same class files together."""
+    for names in dict.fromkeys(names for _, names, *_ in OF_STEPS):
         tests, files = [], [f"{name}.class" for name in names.split(" ")]
         world = World([(STEPS / file).read_bytes() for file in files])
-        for words, _, types, ints in (row for row in OF_MODEL if row[1] == names):
+        for words, _, types, ints in (row for row in OF_STEPS if row[1] == names):
             target, *bounds = words.split(" ")
             pairs = [bound.split("=") for bound in bounds]
             explorer = Explorer(world, target, {name: int(number) for name, number in pairs})
             leaves = explorer.explored()
             for each in lengths_in_turn(types):
-                tests += tests_of(words, explorer, leaves, each, ints, MOST_OF_MODEL)
+                tests += tests_of(words, explorer, leaves, each, ints, MOST_OF_STEPS)
         told, stated = run_tests(harness, STEPS, files, tests), text_of(map(as_met, tests))
         for own, other in zip(stated.split("end\n"), told.split("end\n"), strict=True):
             assert own == other, f"a virtual machine says\n{other}and the model\n{own}"
@@ -237,11 +234,9 @@ def judge_of_model(harness):
 def main():
     with tempfile.TemporaryDirectory() as harness:
         compile_harness(harness)
-        if "--of-model" in sys.argv:
-            judge_of_model(harness)
-            return
         for words, types, ints in ROWS:
             judge(words, types, ints, harness)
+        judge_steps(harness)
 
 
 if __name__ == "__main__":

@@ -11,10 +11,7 @@ what it wrote.
 With --program FILE the whole of `stdout` is what that program writes; but only what is judged may change. Without it, a row
 that `stdout` lacks is written with values of the model's own.
 
-With --whole the rows are those of the folder `whole`, of methods that the program does not explore yet, and no class files are
-written.
-
-Usage: examples/explore/make.py [--program FILE | --whole]
+Usage: examples/explore/make.py [--program FILE]
 It needs javac and java of a JDK 17.
 """
 
@@ -24,7 +21,6 @@ import shutil
 import subprocess
 import sys
 import tempfile
-from dataclasses import dataclass
 from pathlib import Path
 
 from java_runs import as_met, compile_harness, run, run_tests
@@ -40,6 +36,8 @@ DATA = CRATE / "data"
 STEPS = ROOT / "crates" / "step_rows" / "data"
 SOURCES = ("Search.java", "Queue.java", "Types.java")
 ASSEMBLED = {"Node.asm": "worked_node.class", "A.asm": "kept.class", "Odd.asm": "Odd.class", "Other.asm": "Other.class"}
+# the first lines of tests whose methods call Object.equals on an argument of type java/lang/Object
+CALLS_EQUALS = ("test Reached.same(Ljava/lang/Object;Ljava/lang/Object;)I",)
 # classes of the examples that the pages explain
 EXAMPLES = ("Prices", "Sale", "Item", "Book", "Voucher")
 # samples of so many blocks
@@ -77,12 +75,18 @@ from assembler import assemble  # noqa: E402
 from sample import sample_text  # noqa: E402
 
 
-def write_class_files():
+def write_class_files(table):
+    """Writes the class files of this folder's sources, and those of step_rows and of the examples that the table names."""
     javac = ["javac", "-g:none", "-nowarn", "--release", "8", "-d"]
     run(*javac, HERE.parent, HERE.parent / "List.java", stderr=subprocess.DEVNULL)
     run(*javac, DATA, HERE.parent / "List.java", *(HERE / name for name in SOURCES), stderr=subprocess.DEVNULL)
     for source, name in ASSEMBLED.items():
         (DATA / name).write_bytes(assemble((HERE / source).read_text()))
+    (DATA / "steps").mkdir(exist_ok=True)
+    for name in sorted(set(re.findall(r" steps/(\S+)", "\n".join(table)))):
+        shutil.copyfile(STEPS / name, DATA / "steps" / name)
+    for name in EXAMPLES:
+        shutil.copyfile(HERE.parent / f"{name}.class", DATA / f"{name}.class")
     for blocks in SAMPLES:
         (DATA / f"sample_{blocks}.class").write_bytes(assemble(sample_text(blocks)))
 
@@ -90,43 +94,25 @@ def write_class_files():
 # ---- what rows write
 
 
-@dataclass
-class Table:
-    """A table of rows, with what it comes to and its class files and tests; and whether its methods are of every instruction, of
-    which the program does not explore all yet."""
-
-    rows: Path
-    stdout: Path
-    data: Path
-    is_whole: bool = False
-
-    def words(self):
-        return [row for row in self.rows.read_text().splitlines() if row and not row.startswith("#")]
-
-    def before(self):
-        """What stands there of each row, and its status."""
-        text = self.stdout.read_text() if self.stdout.exists() else ""
-        return {words: (lines, status) for words, lines, status in rows_of(text)}
-
-    def of_model(self, words):
-        """What a row writes with the model's own values, and the status."""
-        command, *rest = words.split(" ")
-        if command == "replay":
-            count = (self.data / rest[1]).read_text().count("test ")
-            return [f"test {number} passes" for number in range(count)] + [f"tests {count} passed {count} differed 0"], "status 0"
-        try:
-            explorer, leaves = explored(self.data, words.split(" "), self.is_whole)
-        except NotExplored:
-            return ["refused 50"], "status 5"
-        status = status_of(leaves)
-        if command == "diagrams":
-            return [line for leaf in leaves for line in leaf.diagram()], status
-        assert all(leaf.kind != "undecided" for leaf in leaves), f"{words}: a log is the program's own"
-        if command == "tests":
-            return [line for leaf in leaves if leaf.kind == "ended" for line in leaf.test(leaf.state.values)], status
-        lines = report_head(explorer.method.target, explorer.bounds)
-        lines += [line for leaf in leaves for line in leaf.block(leaf.state.values)]
-        return lines + [report_end(leaves)], status
+def of_model(words):
+    """What a row writes with the model's own values, and the status."""
+    command, *rest = words.split(" ")
+    if command == "replay":
+        count = (DATA / rest[1]).read_text().count("test ")
+        return [f"test {number} passes" for number in range(count)] + [f"tests {count} passed {count} differed 0"], "status 0"
+    try:
+        explorer, leaves = explored(DATA, words.split(" "))
+    except NotExplored:
+        return ["refused 50"], "status 5"
+    status = status_of(leaves)
+    if command == "diagrams":
+        return [line for leaf in leaves for line in leaf.diagram()], status
+    assert all(leaf.kind != "undecided" for leaf in leaves), f"{words}: a log is the program's own"
+    if command == "tests":
+        return [line for leaf in leaves if leaf.kind == "ended" for line in leaf.test(leaf.state.values)], status
+    lines = report_head(explorer.method.target, explorer.bounds)
+    lines += [line for leaf in leaves for line in leaf.block(leaf.state.values)]
+    return lines + [report_end(leaves)], status
 
 
 def of_program(program, words):
@@ -143,19 +129,26 @@ def files_of(words):
     return re.sub(r"^\w+ (--\S+ \S+ )*", "", words)
 
 
-def judge_tests(tests, data, harness):
+def is_able(test):
+    """Whether a virtual machine may run the test: not where it ends as ill-typed, nor where the method calls Object.equals on what may be
+    a string of the input, since java/lang/String has an equals of its own there."""
+    is_string = any(re.match(r"in i\d+ java/lang/String$", line) for line in test)
+    return not any(line.startswith("illtyped ") for line in test) and not (is_string and test[0] in CALLS_EQUALS)
+
+
+def judge_tests(tests, harness):
     """Runs the tests of all rows, those of the same class files together, and writes those that are replayed."""
     for files in sorted({files_of(words) for words in tests}):
         rows = {words: row for words, row in tests.items() if files_of(words) == files}
-        able = [test for row in rows.values() for test in row if not any(line.startswith("illtyped ") for line in test)]
+        able = [test for row in rows.values() for test in row if is_able(test)]
         if not able:
             continue
-        told, stated = run_tests(harness, data, files.split(" "), able), text_of(map(as_met, able))
+        told, stated = run_tests(harness, DATA, files.split(" "), able), text_of(map(as_met, able))
         assert told == stated, f"{files}: {first_difference(told.splitlines(), stated.splitlines())}"
         print(f"{len(able)} ends of runs are those of a Java virtual machine: {files}")
         if files in TESTS:
             written = [row for words, row in rows.items() if words.startswith("tests ")]
-            (data / TESTS[files]).write_text(text_of(test for row in written for test in row))
+            (DATA / TESTS[files]).write_text(text_of(test for row in written for test in row))
 
 
 def text_of(parts):
@@ -166,53 +159,32 @@ def text_of(parts):
 # ---- all of it
 
 
-def write_table(table, program):
-    """Writes what the rows come to, and judges it."""
-    words_of, before = table.words(), table.before()
+def main():
+    options = argparse.ArgumentParser(description="Writes and judges the rows of explorations from unknown heaps.")
+    options.add_argument("--program", type=Path, help="a built program, whose output the rows are")
+    program = options.parse_args().program
+    table = [row for row in (DATA / "rows").read_text().splitlines() if row and not row.startswith("#")]
+    write_class_files(table)
+    before = {words: (lines, status) for words, lines, status in rows_of((CRATE / "stdout").read_text())}
     if program:
-        rows = {words: of_program(program, words) for words in words_of if not words.startswith("replay ")}
+        rows = {words: of_program(program.resolve(), words) for words in table if not words.startswith("replay ")}
     else:
-        rows = {words: before.get(words) or table.of_model(words) for words in words_of if not words.startswith("replay ")}
-    tests = {words: judge(table.data, words, *row, table.is_whole) for words, row in rows.items() if is_judged(words, *row)}
+        rows = {words: before.get(words) or of_model(words) for words in table if not words.startswith("replay ")}
+    tests = {words: judge(DATA, words, *row) for words, row in rows.items() if is_judged(words, *row)}
     judged = set(tests)
     with tempfile.TemporaryDirectory() as harness:
         compile_harness(harness)
-        judge_tests(tests, table.data, harness)
-    for words in words_of:
+        judge_tests(tests, harness)
+    for words in table:
         if words.startswith("replay "):
-            rows[words] = of_program(program, words) if program else before.get(words) or table.of_model(words)
+            rows[words] = of_program(program.resolve(), words) if program else before.get(words) or of_model(words)
             if words.removeprefix("replay --tests ").split(" ")[0] in TESTS.values():
-                assert rows[words] == table.of_model(words), words
+                assert rows[words] == of_model(words), words
                 judged.add(words)
     for words, row in rows.items():
         assert words in judged or row == before[words], f"{words}: {row}"
-    table.stdout.write_text(text_of([f"> {words}", *rows[words][0], rows[words][1]] for words in words_of))
-    print(f"{len(judged)} of {len(words_of)} rows are as the model says")
-
-
-def write_whole():
-    """Writes what the rows of `whole` come to. Their class files are those of the crate and of the examples, and in a folder `steps`
-    those of step_rows."""
-    with tempfile.TemporaryDirectory() as folder:
-        data = Path(folder) / "data"
-        shutil.copytree(DATA, data)
-        shutil.copytree(STEPS, data / "steps")
-        for name in EXAMPLES:
-            shutil.copy(HERE.parent / f"{name}.class", data)
-        write_table(Table(HERE / "whole" / "rows", HERE / "whole" / "stdout", data, is_whole=True), None)
-
-
-def main():
-    options = argparse.ArgumentParser(description="Writes and judges the rows of explorations from unknown heaps.")
-    which = options.add_mutually_exclusive_group()
-    which.add_argument("--program", type=Path, help="a built program, whose output the rows are")
-    which.add_argument("--whole", action="store_true", help="the rows of methods that the program does not explore yet")
-    words = options.parse_args()
-    if words.whole:
-        write_whole()
-        return
-    write_class_files()
-    write_table(Table(DATA / "rows", CRATE / "stdout", DATA), words.program and words.program.resolve())
+    (CRATE / "stdout").write_text(text_of([f"> {words}", *rows[words][0], rows[words][1]] for words in table))
+    print(f"{len(judged)} of {len(table)} rows are as the model says")
 
 
 if __name__ == "__main__":

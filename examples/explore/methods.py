@@ -26,11 +26,6 @@ PUSHES = ("aconst_null", "iconst", "bipush", "sipush", "ldc", "ldc_w", "iload", 
 # the comparison of a branch, whether its sides are turned, and which truth it has where the branch is taken
 BRANCHES = {"eq": ("eq", False, True), "ne": ("eq", False, False), "lt": ("lt", False, True), "ge": ("lt", False, False),
             "gt": ("lt", True, True), "le": ("lt", True, False)}
-# what a method may have that the program explores; a short form goes by the name of its long one
-EXPLORED = {"nop", "aconst_null", "iconst", "bipush", "sipush", "ldc", "ldc_w", "iload", "istore", "iinc", "aload", "astore",
-            "goto", "goto_w", "tableswitch", "lookupswitch", "ireturn", "areturn", "return", "getfield", "putfield", "ifnull",
-            "ifnonnull", "if_acmpeq", "if_acmpne", *BINARY, *UNARY, *MOVES}
-EXPLORED |= {f"if{pair}{name}" for pair in ("", "_icmp") for name in BRANCHES}
 # the operand of an instruction, and its length
 OPERANDS = {"iload": ("B", 2), "aload": ("B", 2), "istore": ("B", 2), "astore": ("B", 2), "ldc": ("B", 2), "bipush": ("b", 2),
             "sipush": ("h", 3), "ldc_w": ("H", 3), "getfield": ("H", 3), "putfield": ("H", 3), "iinc": ("Bb", 3),
@@ -78,20 +73,6 @@ def method_of(world, target):
     if not member.code:
         raise NotExplored("it has no code")
     return Method(member)
-
-
-def check_is_explored(method):
-    """Fails where the program does not explore the method yet."""
-    if method.code.handlers:
-        raise NotExplored("it has handlers")
-    for kind in method.parameters + [method.result]:
-        if kind not in ("I", "Z", "V") and not is_reference(kind):
-            raise NotExplored(kind)
-    for instruction in method.instructions.values():
-        if instruction.name not in EXPLORED:
-            raise NotExplored(instruction.name)
-        if instruction.name in ("ldc", "ldc_w") and method.file.constant(instruction.words[0]) is None:
-            raise NotExplored("a constant that is no int")
 
 
 def instructions_of(code):

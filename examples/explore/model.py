@@ -14,7 +14,7 @@ from pathlib import Path
 from arrays import ARRAYS, Arrays
 from calls import CALLS, Calls
 from classes import World, is_reference
-from methods import BINARY, BRANCHES, MOVES, PUSHES, UNARY, NotExplored, check_is_explored, method_of
+from methods import BINARY, BRANCHES, MOVES, PUSHES, UNARY, NotExplored, method_of
 from states import Frame, IllTyped, State, changed, frame_of
 from terms import NotTold, Pool, computed, solved
 from texts import NULL, Leaf
@@ -346,9 +346,8 @@ class Explorer(Calls, Arrays, Throws):
         return None
 
 
-def explored(folder, words, is_whole=False):
-    """The explorer and the paths of the words of `explore`, `tests` or `diagrams`, whose class files lie in the folder. Unless every
-    instruction is explored, the method must be one that the program explores today."""
+def explored(folder, words):
+    """The explorer and the paths of the words of `explore`, `tests` or `diagrams`, whose class files lie in the folder."""
     options, at = {}, 1
     while words[at].startswith("--"):
         options[words[at][2:]] = words[at + 1]
@@ -358,6 +357,4 @@ def explored(folder, words, is_whole=False):
         raise NotExplored(init)
     world = World([(Path(folder) / name).read_bytes() for name in words[at:]])
     explorer = Explorer(world, target, {name: int(value) for name, value in options.items()})
-    if not is_whole:
-        check_is_explored(explorer.method)
     return explorer, explorer.explored()

@@ -29,17 +29,17 @@ def first_difference(some, others):
 
 
 def is_judged(words, lines, status):
-    """Whether the row is an exploration that was not refused, or refused since its method is none that is explored."""
+    """Whether the row is an exploration that was not refused, or refused since its mode is none that is explored."""
     is_refused = lines and lines[0].startswith("refused") and lines[0] != "refused 50"
     return words.split(" ")[0] in ("explore", "tests", "diagrams") and status != "status 6" and not is_refused
 
 
-def judge(folder, words, lines, status, is_whole):
+def judge(folder, words, lines, status):
     """Fails unless the model writes these lines for the words of a row, but for what a solver may choose: values must meet the
     path's conditions, and a log that leaves them undecided must be fresh. The tests of the paths that have ended, each as its
     lines."""
     try:
-        explorer, leaves = explored(folder, words.split(" "), is_whole)
+        explorer, leaves = explored(folder, words.split(" "))
     except NotExplored:
         assert (lines, status) == (["refused 50"], "status 5"), words
         return []

@@ -153,12 +153,17 @@ class Written {
         }
         slots.addAll(slots(of.getSuperclass()));
         for (Field field : of.getDeclaredFields()) {
-            if (!Modifier.isStatic(field.getModifiers())) {
+            if (!Modifier.isStatic(field.getModifiers()) && hasSlot(field.getType())) {
                 field.setAccessible(true);
                 slots.add(field);
             }
         }
         return slots;
+    }
+
+    /** Fields of other types have no slots. */
+    private static boolean hasSlot(Class<?> type) {
+        return !type.isPrimitive() || type == int.class || type == boolean.class;
     }
 
     private String values(Object object) throws Exception {

@@ -26,13 +26,15 @@ EXPORTS = [word for package in (ASM, f"{ASM}.util") for word in ("--add-exports"
 sys.path.insert(1, str(HERE.parent / "explore"))
 from classes import World, is_reference  # noqa: E402
 from java_runs import as_met, compile_harness, run, run_tests, write_class_files  # noqa: E402
-from methods import EXPLORED  # noqa: E402
+from methods import BINARY, BRANCHES, MOVES, UNARY  # noqa: E402
 from model import Explorer  # noqa: E402
 from terms import NotTold, solved  # noqa: E402
 from texts import NULL, Leaf, type_text  # noqa: E402
 
-REFERENCES = {"aconst_null", "aload", "astore", "if_acmpeq", "if_acmpne", "ifnull", "ifnonnull", "getfield", "putfield", "areturn"}
-INTS = EXPLORED - REFERENCES
+# what a method over ints has; a short form goes by the name of its long one
+INTS = {"nop", "iconst", "bipush", "sipush", "ldc", "ldc_w", "iload", "istore", "iinc", "goto", "goto_w", "tableswitch",
+        "lookupswitch", "ireturn", "return", *BINARY, *UNARY, *MOVES}
+INTS |= {f"if{pair}{name}" for pair in ("", "_icmp") for name in BRANCHES}
 STATED = "#= "
 
 

@@ -14,12 +14,8 @@ from script.tests.maker import (
     NEW,
     NEW_ARRAY_OF,
     POP,
-    PRIVATE,
-    PROTECTED,
-    SPECIAL,
     STATIC,
     STATIC_CALL,
-    SYNTHETIC,
     Maker,
 )
 from script.tests.tools import (
@@ -272,79 +268,16 @@ def test_a_method_that_uses_what_is_left_out():
         same(ran.said, explained("refused 47 TARGET at N method", *parts), "a method that is not there")
 
 
-def test_what_is_not_explored_yet():
-    made = Maker("Q", source="Q.java")
-    call_none = STATIC_CALL + made.method_ref("Q", "one", "()I")
-    made.method("one", "()I", ICONST_0 + IRETURN)
-    made.method("two", "()I", b"\x00" + call_none + IRETURN, lines=[(0, 3), (1, 4)])
-    handler = (0, 1, 2, made.named("java/lang/Exception"))
-    made.method("three", "()I", ICONST_0 + IRETURN + b"\x57" + ICONST_0 + IRETURN, handlers=[handler], lines=[(0, 7), (2, 9)])
-    made.method("four", "([I)I", ALOAD_0 + ICONST_0 + b"\x2e" + IRETURN)
-    anything = (0, 1, 2, 0)
-    code = ICONST_0 + IRETURN + POP + call_none + IRETURN
-    made.method("five", "()I", code, handlers=[anything, handler])
-    with folder() as path:
-        made.write(path)
-        for target, *parts in [
-            ("Q.two()I", "Q.two()I at 1 is invokestatic Q.one()I, which is not explored yet", "Q.two()I at 1 is Q.java:4"),
-            ("Q.three()I", "Q.three()I at 2 handles java/lang/Exception (Q.java:9), which is not explored yet"),
-            ("Q.four([I)I", "Q.four([I)I at 2 is iaload, which is not explored yet"),
-            ("Q.five()I", "Q.five()I at 2 handles anything, which is not explored yet"),
-        ]:
-            ran = call("explore", "--method", target, "Q.class", cwd=path)
-            same(ran.said, explained("refused 50", *parts), target)
-
-
-def test_a_private_member_of_a_nested_class():
-    """For a private field or method that another class of the source uses javac writes a method access$NNN."""
-    front = "javac writes that method since the"
-    node = Maker("p/C$Node").field("elem", "I", PRIVATE).field("far", "I", PROTECTED)
-    one, taken = "(Lp/C$Node;)I", ALOAD_0 + GETFIELD
-    node.method("access$000", one, taken + node.field_ref("p/C$Node", "elem", "I") + IRETURN, STATIC | SYNTHETIC)
-    node.method("twice", "()I", ICONST_0 + IRETURN, PRIVATE)
-    called = ALOAD_0 + SPECIAL + node.method_ref("p/C$Node", "twice", "()I")
-    node.method("access$100", one, called + IRETURN, STATIC | SYNTHETIC)
-    node.method("access$200", one, taken + node.field_ref("p/C$Node", "far", "I") + IRETURN, STATIC | SYNTHETIC)
-    node.method("access$300", one, taken + node.field_ref("p/C$Node", "elem", "I") + IRETURN)
-    made = Maker("p/C")
-    for name, numbers in [("field", "00"), ("call", "10"), ("both", "01"), ("far", "2"), ("written", "3")]:
-        calls = [ALOAD_0 + STATIC_CALL + made.method_ref("p/C$Node", f"access${number}00", one) for number in numbers]
-        made.method(name, one, POP.join(calls) + IRETURN)
-    used = "is private and another class uses it"
-    is_field = f"{front} field p/C$Node.elem {used}: without `private` there"
-    wanted = [
-        ("field", "000", [f"{is_field}, and at other such members, TARGET is explored"]),
-        ("call", "100", [f"{front} method p/C$Node.twice {used}"]),
-        ("both", "000", [f"{is_field} the call goes, but other instructions stay that are not explored yet"]),
-        ("far", "200", []),
-        ("written", "300", []),
-    ]
-    with folder() as path:
-        made.write(path)
-        node.write(path)
-        for name, called, lines in wanted:
-            target = f"p/C.{name}{one}"
-            ran = call("explore", "--method", target, "p/C.class", cwd=path)
-            part = f"{target} at 1 is invokestatic p/C$Node.access${called}{one}, which is not explored yet"
-            lines = [line.replace("TARGET", target) for line in lines]
-            same(ran.said[1:], explained("refused 50", part, *lines), name)
-    with folder() as path:
-        free = Maker("p/C")
-        free.method("field", one, taken + free.field_ref("p/C$Node", "elem", "I") + IRETURN).write(path)
-        Maker("p/C$Node").field("elem", "I").write(path)
-        same(call("explore", "--method", f"p/C.field{one}", "p/C.class", cwd=path).status, 0, "without private")
-
-
 def test_the_method_is_that_of_its_class():
     """Another class that is given first has a method of the same name and descriptor."""
-    other = Maker("A").method("f", "()I", ICONST_0 + ICONST_0 + NEW + b"\0\1" + IRETURN)
-    made = Maker("B")
-    made.method("f", "()I", STATIC_CALL + made.method_ref("B", "f", "()I") + IRETURN)
+    other = Maker("A", source="A.java").method("f", "()I", ICONST_0 + IRETURN, lines=[(0, 1)])
+    made = Maker("B", source="B.java")
+    made.method("f", "()I", b"\xb2" + made.field_ref("B", "count", "I") + IRETURN, lines=[(0, 7)])
     with folder() as path:
         files = [other.write(path), made.write(path)]
         ran = call("explore", "--method", "B.f()I", *files, cwd=path)
-        part = "B.f()I at 0 is invokestatic B.f()I, which is not explored yet"
-        same(ran.said, explained("refused 50", part), "two methods of one name")
+        parts = ["B.f()I at 0 is B.java:7", "opcode b2 is getstatic"]
+        same(ran.said, explained("refused 47 TARGET at N opcode HH", *parts), "two methods of one name")
 
 
 def test_a_field_that_is_not_there():

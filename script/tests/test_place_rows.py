@@ -52,7 +52,7 @@ def judge(row):
     with folder() as path:
         for number, file in enumerate(words[at:]):
             (path / str(number)).mkdir()
-            shutil.copy(DATA / file, path / str(number) / file)
+            shutil.copy(DATA / file, path / str(number))
         ran = call(*words[:at], path)
     same(outcome(ran.out, ran.status), wanted_of(words[at:], output, status), " ".join(words))
 

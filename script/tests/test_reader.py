@@ -3,7 +3,7 @@
 import time
 
 from script.class_file import ClassFile, argument_name
-from script.instructions import first_unexplored, in_words, instructions
+from script.instructions import in_words, instructions
 from script.places import Source
 from script.refused import targets_of
 from script.tests.maker import ALOAD_0, GETFIELD, ICONST_0, IRETURN, NEW, Maker
@@ -35,7 +35,6 @@ def look(data):
     for method in file.methods:
         argument_name(method, 1)
         if method.code:
-            first_unexplored(file, method.code.bytes)
             method.code.line_at(3)
             for at, _ in instructions(method.code.bytes):
                 in_words(file, method.code.bytes, at)
