@@ -114,14 +114,19 @@ def page_of(data, words=(), only=None):
     return model, page
 
 
+def thrown(path):
+    """The exact type of what a path throws: an object that the run has made, or one of the input."""
+    number = int(path.value[1:])
+    return path.made[number][0] if path.value[0] == "n" else path.objects[number].kind
+
+
 def check_paths(model, page):
     """Each path is there once, with its ending and two heaps where it has ended."""
     paths = model.report.paths
     same([each["id"] for each in page.paths], [f"path-{path.decisions}" for path in paths], "paths")
     for path, each in zip(paths, page.paths):
         same(each["data-ending"], path.ending, path.decisions)
-        thrown = path.made[int(path.value[1:])][0] if path.ending == "throws" else None
-        same(each.get("data-exception"), thrown, path.decisions)
+        same(each.get("data-exception"), thrown(path) if path.ending == "throws" else None, path.decisions)
         same(each.get("data-bound"), path.value if path.ending == "cut" else None, path.decisions)
         same(each["heaps"], ["before", "after"] if path.has_ended else ["before"], path.decisions)
 
