@@ -17,7 +17,6 @@ use Rattle.kb_words.specs.declared.orders.Job.{Job}
 use Rattle.kb_world.specs.Reach.{IsAccepted}
 use Rattle.kb_refusals.specs.declared.status.Status.{Status}
 use Rattle.kb_refusals.specs.declared.status.Status.TheVariants.{Complete, Partial}
-use Rattle.kiasan.specs.Unbuilt.{IsBuiltFor}
 
 -- ---- reports
 
@@ -46,11 +45,10 @@ pub record IsReportOf (world : World) (job : Job) (report : Report) : Type 0 whe
   pub found : IsTargetOf world job.target id
   pub listed : AreListed world id report.bounds report.paths report.budget report.leaves
 
--- a report of a method whose exploration is built; its numbers are in the ranges of their types
-pub record IsBuiltReport (world : World) (job : Job) (report : Report) : Type 0 where
+-- a report of a method that reach accepts; its numbers are in the ranges of their types
+pub record IsAcceptedReport (world : World) (job : Job) (report : Report) : Type 0 where
   pub reported : IsReportOf world job report
   pub accepted : IsAccepted world reported.id
-  pub built : IsBuiltFor world reported.id
   pub ranges : ReportFits report
 
 -- the path says nothing of the runs of its instances
