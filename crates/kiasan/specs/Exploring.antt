@@ -21,8 +21,8 @@ use Rattle.kb_refusals.specs.declared.status.Status.TheVariants.{Complete, Parti
 -- ---- reports
 
 -- What the list of an exploration within these bounds, up to so many paths, with a solver of that budget says of the method: its paths
--- cover each type-correct input, their conditions are comparisons that the runs make, and each slot that is seen is read, and was
--- found before that.
+-- cover each type-correct input; and of every path, open and undecided ones too, the conditions are comparisons that the runs make, and
+-- each slot that is seen is read, and was found before that.
 pub record AreListed (world : World) (id : MethodId) (bounds : Bounds) (paths budget : ℕ) (leaves : List Path) : Type 0 where
   pub covers : Covers world id bounds paths budget leaves
   pub compared : EachPath (ComparesAsRuns world id bounds) leaves
