@@ -55,7 +55,6 @@ SOURCE = with_main("""\
 
 ghost use Rattle.std.specs.Prelude.{◌≡◌, true, IfOk};
 ghost use Rattle.kb_lazy.specs.Laws.{AreInRange};
-ghost use Rattle.kb_ways.specs.Built.{IsBuiltNext};
 ghost use Rattle.kb_steps.specs.Stepping.{IsStepping, StepsOn};
 ghost use Rattle.kb_steps.specs.Taking.{choices_at};
 
@@ -65,7 +64,7 @@ use kb_heap::{Bounds, RunBounds};
 use kb_load::{reached, world_of};
 use kb_names::read_target;
 use kb_picture::Choice;
-use kb_steps::{advance, begin, goes_on, is_built_next, take};
+use kb_steps::{advance, begin, goes_on, take};
 use kb_ways::Advanced;
 use kb_world::World;
 use std::alloc::{AllocError, AllocFailed, Global};
@@ -227,7 +226,7 @@ fn count(
     Ok(Some(run.carried))
 }
 
-/// A run. Whether the steps carry out all its instructions.
+/// A run. Whether steps begin with the method.
 fn run_once(
     alloc: Global,
     world: &World,
@@ -240,29 +239,27 @@ fn run_once(
     let Some(mut state) = begin(alloc, world, method)? else {
         return Ok(false);
     };
-    follow(alloc, world, bounds, run, state.get_mut())
+    follow(alloc, world, bounds, run, state.get_mut())?;
+    Ok(true)
 }
 
-/// Steps on as long as another one comes, and is built. Whether all were.
+/// Steps on as long as another one comes.
 fn follow(
     alloc: Global,
     world: &World,
     bounds: &Bounds,
     run: &mut Run,
     state: &mut SymState,
-) -> Result<bool, Stop>
+) -> Result<(), Stop>
     requires stepping { IsStepping world.now state.old }
     requires range { AreInRange bounds.now }
 {
     for _ in 0..MOST {
-        if !is_built_next(world, state) {
-            return Ok(false);
-        }
         if !step(alloc, world, bounds, run, state)? {
-            return Ok(true);
+            return Ok(());
         }
     }
-    Ok(true)
+    Ok(())
 }
 
 /// One step. Whether another one comes behind it.
@@ -274,7 +271,6 @@ fn step(
     state: &mut SymState,
 ) -> Result<bool, Stop>
     requires stepping { IsStepping world.now state.old }
-    requires built { IsBuiltNext world.now state.old }
     requires range { AreInRange bounds.now }
     ensures { IfOk result (λ goes_on. goes_on ≡ true → IsStepping world.now state.new) }
 {
@@ -297,7 +293,6 @@ fn choose(
     choices: &[Choice],
 ) -> Result<bool, Stop>
     requires stepping { IsStepping world.now state.old }
-    requires built { IsBuiltNext world.now state.old }
     requires range { AreInRange bounds.now }
     requires offered { choices.now ≡ choices_at world.now bounds.now state.old }
     ensures { IfOk result (λ goes_on. goes_on ≡ true → IsStepping world.now state.new) }
@@ -351,7 +346,6 @@ use Rattle.kb_picture.specs.declared.choice.Choice.TheVariants.{Only}
 use Rattle.kb_heap.specs.declared.bounds.Bounds.{Bounds}
 use Rattle.kb_frames.specs.State.{State}
 use Rattle.kb_ways.specs.Advancing.{IsAdvanced}
-use Rattle.kb_ways.specs.Built.{IsBuiltNext}
 use Rattle.kb_ways.specs.declared.advanced.Advanced.{Advanced}
 use Rattle.kb_ways.specs.declared.advanced.Advanced.TheVariants.{Chooses}
 use Rattle.kb_steps.specs.Stepping.{AdvancesOn}
@@ -363,12 +357,6 @@ Advances world bounds old new advanced = IsAdvanced (choices_at world bounds old
 
 pub choose-requires-clause-stepping : goal.choose-requires-clause-stepping
 choose-requires-clause-stepping c = subst (AdvancesOn c.args.world.now c.advance.new.state) c.in-Ok-Chooses.field-0-is c.in-Ok-Chooses.ensures.on
-
-pub choose-requires-clause-built : goal.choose-requires-clause-built
-choose-requires-clause-built c =
-    let advanced : Advances c.args.world.now c.args.bounds.now c.args.state.now c.advance.new.state (Chooses c.in-Ok-Chooses.choices) =
-    subst (Advances c.args.world.now c.args.bounds.now c.args.state.now c.advance.new.state) c.in-Ok-Chooses.field-0-is c.in-Ok-Chooses.ensures.advanced in
-    subst (IsBuiltNext c.args.world.now) (sym advanced.0) c.requires.built
 
 pub choose-requires-clause-offered : goal.choose-requires-clause-offered
 choose-requires-clause-offered c =

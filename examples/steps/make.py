@@ -24,17 +24,12 @@ ASM = "java.base/jdk.internal.org.objectweb.asm"
 EXPORTS = [word for package in (ASM, f"{ASM}.util") for word in ("--add-exports", f"{package}=ALL-UNNAMED")]
 
 sys.path.insert(1, str(HERE.parent / "explore"))
-from classes import World, is_reference  # noqa: E402
+from classes import World  # noqa: E402
 from java_runs import as_met, compile_harness, run, run_tests, write_class_files  # noqa: E402
-from methods import BINARY, BRANCHES, MOVES, UNARY  # noqa: E402
 from model import Explorer  # noqa: E402
 from terms import NotTold, solved  # noqa: E402
 from texts import NULL, Leaf, type_text  # noqa: E402
 
-# what a method over ints has; a short form goes by the name of its long one
-INTS = {"nop", "iconst", "bipush", "sipush", "ldc", "ldc_w", "iload", "istore", "iinc", "goto", "goto_w", "tableswitch",
-        "lookupswitch", "ireturn", "return", *BINARY, *UNARY, *MOVES}
-INTS |= {f"if{pair}{name}" for pair in ("", "_icmp") for name in BRANCHES}
 STATED = "#= "
 
 
@@ -58,7 +53,7 @@ def cell_text(cell):
 
 
 def state_lines(explorer, state, outcome):
-    """What a state over a heap holds: nothing where it is cut."""
+    """What a state holds: nothing where it is cut."""
     lines = []
     if outcome == "cut":
         return lines
@@ -80,15 +75,9 @@ def node_text(node):
     return str(node[0]) if isinstance(node[0], int) else " ".join([node[0], *(f"t{operand}" for operand in node[1:])])
 
 
-def is_over_heaps(method):
-    """Whether the method is more than one over ints, which has no handlers."""
-    names = {instruction.name for instruction in method.instructions.values()}
-    return any(is_reference(kind) for kind in method.parameters + [method.result]) or not names <= INTS or bool(method.code.handlers)
-
-
 def walk(world, row):
-    """What a row comes to: the alternatives of each step, what comes of the one that is taken, and the terms that it makes. Of a
-    method over heaps also what the state holds then. Behind the lines the leaf."""
+    """What a row comes to: the alternatives of each step, what comes of the one that is taken, the terms that it makes, and what the
+    state holds then. Behind the lines the leaf."""
     target, *words = row.split(" ")
     bounds = {key: int(value) for key, value in (word.split("=") for word in words if "=" in word)}
     decisions = [int(word) for word in words if "=" not in word]
@@ -108,8 +97,7 @@ def walk(world, row):
         outcome, state = explorer.take(state, *ways[place])
         lines.append(f"{line}: {Leaf(explorer, (), outcome, state).ending_text(value_text)}")
         lines += [f"  t{term} {node_text(node)}" for term, node in enumerate(explorer.pool.nodes) if term >= before]
-        if is_over_heaps(explorer.method):
-            lines += state_lines(explorer, state, outcome[0])
+        lines += state_lines(explorer, state, outcome[0])
         if outcome[0] not in ("asks", "goes"):
             break
     assert taken == len(decisions), f"{row}: {len(decisions)} decisions, of which {taken} are taken"

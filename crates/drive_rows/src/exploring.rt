@@ -7,7 +7,7 @@ use crate::listed::{append_paths, report_of};
 use crate::rows::{TableRow, read_row};
 use crate::telling::read_all_told;
 use kb_class::MethodId;
-use kb_drive::{DriveStop, explore_from, is_heap_method};
+use kb_drive::{DriveStop, explore_from};
 use kb_frames::start;
 use kb_load::reached;
 use kb_oracle::ToldOracle;
@@ -59,7 +59,7 @@ fn append_exploration(
     }
 }
 
-/// Puts the paths of a method over ints and heaps into the report, or the path at which the exploration stops.
+/// Puts the paths of a method into the report, or the path at which the exploration stops.
 fn explore(
     alloc: Global,
     world: &World,
@@ -71,9 +71,6 @@ fn explore(
     requires { IsAccepted world.now method }
 {
     if row.paths == 0 || row.bounds.array > LONGEST_ARRAY || row.bounds.run.alloc > LONGEST_ARRAY {
-        return Err(RowStop::Malformed);
-    }
-    if !is_heap_method(world, method) {
         return Err(RowStop::Malformed);
     }
     let state = start(alloc, world, method, Init::Lazy)?;

@@ -19,7 +19,7 @@ use Rattle.kb_drive.specs.Explorable.{IsExplorable}
 use Rattle.kb_drive.specs.Parts.{IsInPart, Listed, Waits, alternatives_from, decisions_of_part, parts_of}
 use Rattle.kb_drive.specs.Pieces.{IsPiece}
 use Rattle.kb_drive.specs.Steps.{StepsLead}
-use Rattle.kb_drive.specs.Taking.{choices_at, taken_at}
+use Rattle.kb_steps.specs.Taking.{choices_at, taken_at}
 use Rattle.kb_drive.specs.Walks.{AreRising, BeginWith, IsWalk}
 use Rattle.kb_drive.specs.Whole.{CoversPiece, IsOfPiece}
 use Rattle.kb_drive.proofs.OrderLaws.{in_order}

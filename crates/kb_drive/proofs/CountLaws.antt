@@ -19,7 +19,7 @@ use Rattle.kb_drive.specs.Counts.{RoseBy, is_undecided, undecided_count}
 use Rattle.kb_drive.specs.Following.{HasCounted, follows, follows_outcome, input_of_piece, listed_with, path_of_piece, waits_at, walk_with}
 use Rattle.kb_frames_laws.specs.Endings.{ended_in}
 use Rattle.kb_drive.specs.Running.{ran_behind}
-use Rattle.kb_drive.specs.Taking.{choices_at}
+use Rattle.kb_steps.specs.Taking.{choices_at}
 use Rattle.kb_drive.specs.Walks.{KeepsCount}
 use Rattle.kb_drive.proofs.OpenLaws.{count_more}
 use Rattle.kb_drive.proofs.SourceLaws.{rose_kept, rose_more}

@@ -21,7 +21,7 @@ use Rattle.kb_stepref.proofs.OneLaws.{one as one_of_references}
 use Rattle.kb_drive.specs.Steps.{LeadsOn, StepsLeadOn}
 use Rattle.kb_drive.proofs.LeadLaws.{ints_lead}
 use Rattle.kb_drive.proofs.ReferenceLeads.{references_lead}
-use Rattle.kb_drive.proofs.HeapLaws.{at_ints, at_references}
+use Rattle.kb_steps.proofs.StepLaws.{at_references}
 
 record LeadBy (world : World) (bounds : Bounds) (state : State) (choices : List Choice) (taken : Choice → Take) : Type 0 where
   one : TakesOneWay world bounds state choices taken
@@ -34,7 +34,7 @@ steps_lead world bounds state range is = let by = go (next_is_int world state) r
       → LeadBy world bounds state (if ints then int_choices world state bounds else reference_choices world state bounds)
       (λ choice. if ints then int_taken world bounds state choice else reference_taken world bounds state choice)
   go true e = record {
-    one = one_of_ints world bounds state (at_ints world state is e);
+    one = one_of_ints world bounds state (record { reached = is.reached; next = e });
     each = λ choice has. ints_lead world bounds state choice is e has;
     plain = only_way_when world bounds state;
   }

@@ -17,7 +17,7 @@ use Rattle.kb_drive.specs.Following.{waits_at, walk_with}
 use Rattle.kb_drive.specs.Parts.{IsInPart, decisions_of_part, parts_of}
 use Rattle.kb_drive.specs.Pieces.{IsPiece}
 use Rattle.kb_drive.specs.Steps.{StepsLead}
-use Rattle.kb_drive.specs.Taking.{choices_at}
+use Rattle.kb_steps.specs.Taking.{choices_at}
 use Rattle.kb_drive.specs.Values.{OfGiven}
 use Rattle.kb_drive.specs.Walks.{BeginWith, IsFrom, IsFurther, IsRefined, IsWalk}
 use Rattle.kb_drive.specs.Whole.{CoversPiece, IsOfPiece}

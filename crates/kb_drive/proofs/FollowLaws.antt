@@ -36,9 +36,9 @@ use Rattle.kb_drive.specs.StatePaths.{IsPathOf}
 use Rattle.kb_frames_laws.specs.Endings.{EndingsMean, HasNoLocBeyond, ended_in}
 use Rattle.kb_frames_laws.proofs.EndingLaws.{none_beyond}
 use Rattle.kb_picture.specs.declared.path.SymEnding.{SymEnding}
-use Rattle.kb_drive.specs.Reached.{IsHeapReached}
+use Rattle.kb_steps.specs.Stepping.{IsStepping}
 use Rattle.kb_drive.specs.Steps.{GoesOn, StepsLead, StepsLeadOn}
-use Rattle.kb_drive.specs.Taking.{choices_at}
+use Rattle.kb_steps.specs.Taking.{choices_at}
 use Rattle.kb_drive.specs.Walks.{AreRising, BeginWith, IsRightPath, IsWaiting, size_behind, size_left, size_of, size_of_choices}
 use Rattle.kb_drive.proofs.DivisionLaws.{Replaces}
 use Rattle.kb_drive.proofs.KindLaws.{kinds_fit}
@@ -154,7 +154,7 @@ module _ (steps : StepsLeadOn) (endings_mean : EndingsMean) (emits : InputsAreOf
           }
 
       ended_known : (ending : SymEnding) → ran.outcome ≡ Ends ending → HasNoLocBeyond ran.state.picture
-      ended_known ending same = (let goes_on : IsHeapReached world ran.state = rw same at run.behind.leads in none_beyond ran.state.picture goes_on.known)
+      ended_known ending same = (let goes_on : IsStepping world ran.state = rw same at run.behind.leads in none_beyond ran.state.picture goes_on.known)
 
       settled : (outcome : Outcome) → ran.outcome ≡ outcome → IsSucceeded (follows_outcome world bounds piece outcome)
       settled Asks same = waits (choices_at world bounds ran.state) refl (rw same tt) (rw same refl)

@@ -2,7 +2,7 @@
 use Rattle.std.proofs.Common.{◌≡◌, ◌⊎◌, ℕ, zero, suc, ◌<◌, ◌≤◌, ℤ, pos, Bool, true, List, [], ◌∷◌, ◌++◌, length, take, drop, Some, None, slice_get, inl, inr, refl, sym, ap, ◌∙◌, subst, arith, rules}
 use Rattle.std.specs.List.{filter_map, list_all}
 use Rattle.std.proofs.lemmas.List.Elements.{filter_map-append}
-use Rattle.std.proofs.lemmas.Bool.{false≢true}
+use Rattle.std.proofs.lemmas.Bool.{and_parts, false≢true}
 use Rattle.kb_blast.specs.Meaning.{AreMetInPool, KindFits}
 use Rattle.kb_blast.specs.Query.{AreConditions, is_comparison, kind_from, kinds_of, node_passes, roots_of}
 use Rattle.kb_terms.specs.Terms.{Extends, IsTerm, int_at, node_at}
@@ -11,7 +11,6 @@ use Rattle.kb_terms.specs.declared.node.TermId.{TermId}
 use Rattle.kb_terms.specs.declared.node.VarKind.{VarKind}
 use Rattle.kb_terms.specs.declared.node.VarKind.TheVariants.{Int as IntKind, Bool as BoolKind}
 use Rattle.kb_terms.proofs.Values.{value_of-extends}
-use Rattle.kb_ways.proofs.MethodLaws.{and_both}
 use Rattle.kb_drive.specs.Pieces.{AreValuesFor}
 
 -- ---- lists
@@ -90,7 +89,7 @@ passes_term nodes t e = go (within_or_not t.0 (length nodes))
 pub conditions_both : (nodes : List Node) (condition : TermId × Bool) (when : List (TermId × Bool)) → AreConditions nodes (condition ∷ when)
     → (node_passes is_comparison (node_at nodes condition.0) ≡ true) × AreConditions nodes when
 conditions_both nodes condition when are =
-    and_both (node_passes is_comparison (node_at nodes condition.0)) (list_all (λ (t : TermId). node_passes is_comparison (node_at nodes t)) (roots_of when)) are
+    and_parts (node_passes is_comparison (node_at nodes condition.0)) (list_all (λ (t : TermId). node_passes is_comparison (node_at nodes t)) (roots_of when)) are
 
 -- the term of a condition is one of the pool
 pub condition_term : (nodes : List Node) (when : List (TermId × Bool)) (i : ℕ) (condition : TermId × Bool) → AreConditions nodes when

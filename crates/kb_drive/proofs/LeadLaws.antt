@@ -57,12 +57,11 @@ use Rattle.kb_ways.proofs.MeasureLaws.{few_next}
 use Rattle.kb_stepint.proofs.MeasureLaws.{gets_on}
 use Rattle.kb_stepint.proofs.OutcomeLaws.{follows}
 use Rattle.kb_stepint.proofs.ReachedLaws.{has_input}
-use Rattle.kb_drive.specs.Reached.{GoesOnReached, IsHeapReached}
-use Rattle.kb_drive.proofs.IntsStay.{ints_keep}
+use Rattle.kb_steps.specs.Stepping.{IsStepping}
+use Rattle.kb_steps.proofs.StepLaws.{ints_lead as ints_go_on}
 use Rattle.kb_drive.specs.Steps.{GoesOn, LeadsOn, StaysAtInputs, rank_of}
 use Rattle.kb_drive.proofs.EndLaws.{endings_there}
 use Rattle.kb_drive.proofs.FrontLaws.{take_append}
-use Rattle.kb_drive.proofs.HeapLaws.{at_ints}
 use Rattle.kb_picture.specs.declared.picture.Seen.TheVariants as seens
 
 -- ---- what stays at inputs
@@ -231,16 +230,10 @@ less_rank world bounds old new (Cut bound) on few goes = absurd goes
 
 -- ---- all of it
 
-goes_reached : (world : World) (state : State) (outcome : Outcome) → IsHeapReached world state → GoesOnReached world state outcome
-goes_reached world state Asks is = is
-goes_reached world state Goes is = is
-goes_reached world state (Ends ending) is = is
-goes_reached world state (Cut bound) is = tt
-
-pub ints_lead : (world : World) (bounds : Bounds) (state : State) (choice : Choice) → IsHeapReached world state → next_is_int world state ≡ true → Has (choices_of world state bounds) choice
+pub ints_lead : (world : World) (bounds : Bounds) (state : State) (choice : Choice) → IsStepping world state → next_is_int world state ≡ true → Has (choices_of world state bounds) choice
     → LeadsOn world bounds state (taken world bounds state choice)
 ints_lead world bounds state choice is ints has =
-    let at : IsAtInts world state = at_ints world state is ints in
+    let at : IsAtInts world state = record { reached = is.reached; next = ints } in
     let after : Take = taken world bounds state choice in
     record {
       outcome = follows world bounds state choice at has;
@@ -250,6 +243,6 @@ ints_lead world bounds state choice is ints has =
       picture = has_input world bounds choice state at;
       stays = stays_behind world bounds state choice;
       ending = endings_there world bounds state choice at has;
-      leads = λ reached. goes_reached world after.state after.outcome (ints_keep world bounds state choice is ints reached.sound.pool);
+      leads = ints_go_on world bounds state choice is;
       fewer = less_rank world bounds state after.state after.outcome (gets_on world bounds state choice) (taken_few world bounds state choice);
     }

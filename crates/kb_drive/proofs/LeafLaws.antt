@@ -85,7 +85,7 @@ module _ (endings_mean : EndingsMean) (emits : InputsAreOfStates) (one_places : 
         → IsPathOf world after.state decisions leaf → SeesWhatIsRead world target bounds (path_of after.state decisions leaf)
     unfolding path_of
     sees count values after decisions leaf behind means =
-        λ decided input correct instance_of.
+        λ input correct instance_of.
         let was = (means.means.instances input).0 instance_of in
         subst (λ (places : PlaceLists). AreReadFirst (setting_of world bounds) (starts_of world target input) input places.objects after.state.picture.seen)
         (one_places after.state.picture input was.shape instance_of.shape) (behind.explored.read input correct was)

@@ -1,4 +1,4 @@
-pub mod AloneTakes
+pub mod AcceptedLaws
 pub mod BeginLaws
 pub mod CountLaws
 pub mod CoveringLaws
@@ -36,7 +36,3 @@ pub mod ValuedLaws
 pub mod WaitLaws
 pub mod WalkLaws
 pub mod WholeLaws
-pub mod IntsStay
-pub mod HeapMethodLaws
-pub mod HeapPlans
-pub mod HeapLaws

@@ -17,7 +17,7 @@ use Rattle.kb_picture.specs.Exactly.{NoneHas, ExactlyOneHas}
 use Rattle.kb_drive.specs.Division.{IsFrontOf}
 use Rattle.kb_drive.specs.Following.{alternative_next, has_more, listed_with, waiting_with, waits_on}
 use Rattle.kb_drive.specs.Parts.{Alternative, Part, Listed, Waits, IsInPart, alternatives_from, alternatives_left, decisions_of_part, parts_of}
-use Rattle.kb_drive.specs.Taking.{taken_at}
+use Rattle.kb_steps.specs.Taking.{taken_at}
 use Rattle.kb_drive.specs.Walks.{AreRising, BeginWith, IsBelowEach}
 use Rattle.kb_drive.proofs.OrderLaws.{next_below}
 

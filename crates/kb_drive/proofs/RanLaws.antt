@@ -14,7 +14,7 @@ use Rattle.kb_drive.specs.declared.piece.Piece.{Piece}
 use Rattle.kb_drive.specs.declared.running.Ran.{Ran}
 use Rattle.kb_drive.specs.declared.running.Ran.TheVariants as rans
 use Rattle.kb_drive.specs.Following.{CanFollowOutcome, HasBecome, follows_on, follows_outcome, follows_ran, waits_at}
-use Rattle.kb_drive.specs.Reached.{GoesOnReached}
+use Rattle.kb_steps.specs.Stepping.{StepsOn}
 use Rattle.kb_drive.specs.Running.{TellsChoices, outcome_of, ran_behind, told_ran}
 use Rattle.kb_drive.specs.Steps.{EndsIn}
 use Rattle.kb_frames_laws.specs.Endings.{ended_in}
@@ -29,7 +29,7 @@ unfolding no_input
 no_input_closed = record { arguments = λ i value at. absurd cc; objects = λ i j object value at there. absurd cc }
 
 -- a piece can go on, or its path can be made, whatever input that carries
-pub can_follow_outcome : (world : World) (piece : Piece) (outcome : Outcome) → IsReached world piece.state → GoesOnReached world piece.state outcome
+pub can_follow_outcome : (world : World) (piece : Piece) (outcome : Outcome) → IsReached world piece.state → StepsOn world piece.state outcome
     → EndsIn world piece.state outcome → CanFollowOutcome world piece outcome
 can_follow_outcome world piece Asks reached goes ends = goes
 can_follow_outcome world piece Goes reached goes ends = goes
@@ -52,7 +52,7 @@ become_follows world bounds old outcome new ran is =
 
 -- as its calls tell it
 pub has_become : (world : World) (bounds : Bounds) (old : Piece) (after : Take) (new : Piece) (ran : Ran) → told_ran new.state ran ≡ after → new ≡ record old { state = new.state }
-    → TellsChoices world bounds new.state ran → IsReached world new.state → GoesOnReached world new.state (outcome_of ran) → EndsIn world new.state (outcome_of ran)
+    → TellsChoices world bounds new.state ran → IsReached world new.state → StepsOn world new.state (outcome_of ran) → EndsIn world new.state (outcome_of ran)
     → HasBecome world bounds old after new ran
 has_become world bounds old after new ran is same choices reached goes ends = record {
   is = is;

@@ -51,7 +51,6 @@ use Rattle.kb_stepref.proofs.FirstReadLaws.{IsAskedAt, IsAskedBy, asked, asked_a
 use Rattle.kb_stepref.proofs.FollowLaws.{follows}
 use Rattle.kb_stepref.proofs.KeepLaws.{IsBehind, index_behind, index_has, index_stage, index_stays, int_tells, kept, length_behind, length_stays, plan_writes, read_untold, reference_tells, takes_next_untold}
 use Rattle.kb_stepref.proofs.MeasureLaws.{gets_on}
-use Rattle.kb_drive.proofs.HeapLaws.{goes_on_reached}
 use Rattle.kb_stepref.proofs.ReachedLaws.{has_input}
 use Rattle.kb_stepref.proofs.ReadInstances.{told_values}
 use Rattle.kb_stepref.proofs.SeenLaws.{read}
@@ -61,7 +60,8 @@ use Rattle.kb_drive.proofs.FrontLaws.{take_append}
 use Rattle.kb_drive.proofs.LeadLaws.{Few, IsRunning, begun_runs, less_rank, read_runs, stays_int, stays_itself, went_few}
 use Rattle.kb_drive.proofs.ReferenceEnds.{references_end}
 use Rattle.kb_picture.specs.declared.choice.Choice.TheVariants.{Only}
-use Rattle.kb_drive.specs.Reached.{IsHeapReached}
+use Rattle.kb_steps.specs.Stepping.{IsStepping}
+use Rattle.kb_steps.proofs.StepLaws.{references_lead as references_go_on}
 
 -- ---- what stays at inputs
 
@@ -192,7 +192,7 @@ module _ (world : World) (bounds : Bounds) (old : State) (at : IsAtReferences wo
 
   -- ---- all of it
 
-  pub references_lead : IsHeapReached world old → AreInRange bounds → Has (choices_of world old bounds) choice → LeadsOn world bounds old (taken world bounds old choice)
+  pub references_lead : IsStepping world old → AreInRange bounds → Has (choices_of world old bounds) choice → LeadsOn world bounds old (taken world bounds old choice)
   references_lead reached range has =
       let after : Take = taken world bounds old choice in
       record {
@@ -203,6 +203,6 @@ module _ (world : World) (bounds : Bounds) (old : State) (at : IsAtReferences wo
         picture = has_input world bounds old choice range at has;
         stays = stays_behind;
         ending = references_end world bounds old choice range at has;
-        leads = λ behind. goes_on_reached world bounds old choice range reached at.next has behind.sound.pool;
+        leads = references_go_on world bounds old choice range reached at.next has;
         fewer = less_rank world bounds old after.state after.outcome (gets_on world bounds old choice at) taken_few;
       }

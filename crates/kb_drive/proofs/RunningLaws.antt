@@ -24,10 +24,10 @@ use Rattle.kb_ways.specs.Reached.{IsReached}
 use Rattle.kb_ways.specs.Ways.{Take}
 use Rattle.kb_drive.specs.declared.piece.Piece.{Piece}
 use Rattle.kb_drive.specs.Pieces.{AreValuesFor, IsBehind, IsPiece}
-use Rattle.kb_drive.specs.Reached.{GoesOnReached, IsHeapReached}
+use Rattle.kb_steps.specs.Stepping.{IsStepping, StepsOn}
 use Rattle.kb_drive.specs.Running.{AreReachedOn, AreReachedWithin, IfGoesOn, IfOnly, is_only, is_way_on, ran_behind, run_behind, runs_on, runs_within, stays, way_on}
 use Rattle.kb_drive.specs.Steps.{GoesOn, LeadsOn, StepsLead, StepsLeadOn, rank_of}
-use Rattle.kb_drive.specs.Taking.{choices_at, taken_at}
+use Rattle.kb_steps.specs.Taking.{choices_at, taken_at}
 use Rattle.kb_drive.specs.Walks.{size_behind, size_of, size_of_choices}
 use Rattle.kb_drive.proofs.PieceLaws.{behind_piece, instance_before}
 use Rattle.kb_drive.proofs.SettledLaws.{behind_whole, leads_on, piece_behind, stands_on, whole_met}
@@ -63,7 +63,7 @@ only_of (choice ∷ other ∷ others) e = absurd cc
 -- what runs on from a state, and a state from which it runs
 module _ (steps : StepsLeadOn) (world : World) (bounds : Bounds) (range : AreInRange bounds) where
   -- the only way on is an alternative, and leads on
-  pub way_leads : (state : State) → IsHeapReached world state → is_only (choices_at world bounds state) ≡ true → LeadsOn world bounds state (way_on world bounds state)
+  pub way_leads : (state : State) → IsStepping world state → is_only (choices_at world bounds state) ≡ true → LeadsOn world bounds state (way_on world bounds state)
   way_leads state is e =
       (steps world bounds state range is).each Only (0, ap (λ (cs : List Choice). slice_get cs 0) (only_of (choices_at world bounds state) e))
 
@@ -73,27 +73,27 @@ module _ (steps : StepsLeadOn) (world : World) (bounds : Bounds) (range : AreInR
     pub reached : IsReached world ran.state
     pub method : ran.state.method ≡ state.method
 
-  keeps_further : (depth : ℕ) (state : State) (is : IsHeapReached world state) → is_only (choices_at world bounds state) ≡ true
+  keeps_further : (depth : ℕ) (state : State) (is : IsStepping world state) → is_only (choices_at world bounds state) ≡ true
       → IsReached world (way_on world bounds state).state
-      → ((next : State) → IsHeapReached world next → AreReachedWithin depth world bounds next → RunKeeps next (runs_within depth world bounds next))
+      → ((next : State) → IsStepping world next → AreReachedWithin depth world bounds next → RunKeeps next (runs_within depth world bounds next))
       → (outcome : Outcome) → (way_on world bounds state).outcome ≡ outcome
       → IfGoesOn outcome (AreReachedWithin depth world bounds (way_on world bounds state).state)
       → RunKeeps state (run_behind (runs_within depth world bounds) (way_on world bounds state).state outcome)
   keeps_further depth state is e reached later Asks same way =
       let leads = way_leads state is e in
-      let next : IsHeapReached world (way_on world bounds state).state = rw same at leads.leads reached in
+      let next : IsStepping world (way_on world bounds state).state = rw same at leads.leads reached in
       let kept = later (way_on world bounds state).state next way in
       record { reached = kept.reached; method = kept.method ∙ leads.kept.method }
   keeps_further depth state is e reached later Goes same way =
       let leads = way_leads state is e in
-      let next : IsHeapReached world (way_on world bounds state).state = rw same at leads.leads reached in
+      let next : IsStepping world (way_on world bounds state).state = rw same at leads.leads reached in
       let kept = later (way_on world bounds state).state next way in
       record { reached = kept.reached; method = kept.method ∙ leads.kept.method }
   keeps_further depth state is e reached later (Ends ending) same way = record { reached = reached; method = (way_leads state is e).kept.method }
   keeps_further depth state is e reached later (Cut bound) same way = record { reached = reached; method = (way_leads state is e).kept.method }
 
-  keeps_where : (depth : ℕ) (state : State) → IsHeapReached world state
-      → ((next : State) → IsHeapReached world next → AreReachedWithin depth world bounds next → RunKeeps next (runs_within depth world bounds next))
+  keeps_where : (depth : ℕ) (state : State) → IsStepping world state
+      → ((next : State) → IsStepping world next → AreReachedWithin depth world bounds next → RunKeeps next (runs_within depth world bounds next))
       → (alone : Bool) → is_only (choices_at world bounds state) ≡ alone
       → IfOnly alone (IsReached world (way_on world bounds state).state × IfGoesOn (way_on world bounds state).outcome (AreReachedWithin depth world bounds (way_on world bounds state).state))
       → RunKeeps state (if alone then run_behind (runs_within depth world bounds) (way_on world bounds state).state (way_on world bounds state).outcome else stays state)
@@ -101,14 +101,14 @@ module _ (steps : StepsLeadOn) (world : World) (bounds : Bounds) (range : AreInR
   keeps_where depth state is later false e way = record { reached = is.reached; method = refl }
 
   -- It has come to a state of the same method to which calls have led.
-  pub run_keeps : (depth : ℕ) (state : State) → IsHeapReached world state → AreReachedWithin depth world bounds state → RunKeeps state (runs_within depth world bounds state)
+  pub run_keeps : (depth : ℕ) (state : State) → IsStepping world state → AreReachedWithin depth world bounds state → RunKeeps state (runs_within depth world bounds state)
   unfolding runs_within AreReachedWithin
   run_keeps zero state is way = record { reached = is.reached; method = refl }
   run_keeps (suc depth) state is way =
       keeps_where depth state is (λ next is_next later. run_keeps depth next is_next later) (is_only (choices_at world bounds state)) refl way
 
   -- The same behind a take, whatever became of it.
-  pub run_keeps_behind : (state : State) (outcome : Outcome) → IsReached world state → GoesOnReached world state outcome → IfGoesOn outcome (AreReachedOn world bounds state)
+  pub run_keeps_behind : (state : State) (outcome : Outcome) → IsReached world state → StepsOn world state outcome → IfGoesOn outcome (AreReachedOn world bounds state)
       → RunKeeps state (ran_behind world bounds state outcome)
   run_keeps_behind state Asks reached is way = run_keeps (suc (rank_of world bounds state)) state is way
   run_keeps_behind state Goes reached is way = run_keeps (suc (rank_of world bounds state)) state is way
@@ -118,7 +118,7 @@ module _ (steps : StepsLeadOn) (world : World) (bounds : Bounds) (range : AreInR
   -- ---- how much is left
 
   -- what is below the only way on is below the state
-  size_further : (state : State) → IsHeapReached world state → is_only (choices_at world bounds state) ≡ true
+  size_further : (state : State) → IsStepping world state → is_only (choices_at world bounds state) ≡ true
       → size_behind (size_of world bounds) (way_on world bounds state).state (way_on world bounds state).outcome ≤ size_of world bounds state
   size_further state is e =
       let all = size_split world bounds state (steps world bounds state range is) in

@@ -19,7 +19,7 @@ use Rattle.kb_frames.specs.StandsFor.{IsInstanceOf}
 use Rattle.kb_frames.specs.State.{State, start_state}
 use Rattle.kb_frames.proofs.StartLaws.{start_stands}
 use Rattle.kb_ways.specs.Ways.{Take}
-use Rattle.kb_drive.specs.Reached.{GoesOnReached, IsHeapReached}
+use Rattle.kb_steps.specs.Stepping.{IsStepping, StepsOn}
 use Rattle.kb_drive.specs.declared.piece.Piece.{Piece}
 use Rattle.kb_drive.specs.Pieces.{AreValuesFor, HasOutcome, IsBehind, IsExplored, IsPiece, StandsForEach}
 use Rattle.kb_frames_laws.specs.Meant.{with_first}
@@ -32,7 +32,7 @@ abbrev pub whole_piece : Init → MethodId → Piece
 whole_piece init target = record { state = start_state init target; decisions = []; values = [] }
 
 -- the state before the arguments are read is a piece: nothing was asked and nothing read
-pub whole_is_piece : (world : World) (bounds : Bounds) (init : Init) (target : MethodId) → IsHeapReached world (start_state init target) → IsPiece world target bounds (whole_piece init target)
+pub whole_is_piece : (world : World) (bounds : Bounds) (init : Init) (target : MethodId) → IsStepping world (start_state init target) → IsPiece world target bounds (whole_piece init target)
 whole_is_piece world bounds init target reached = record {
   reached = reached;
   explored = record {
@@ -47,7 +47,7 @@ whole_is_piece world bounds init target reached = record {
 }
 
 -- where a state goes on, steps lead on from it
-pub leads_on : (world : World) (state : State) (outcome : Outcome) → GoesOn outcome → GoesOnReached world state outcome → IsHeapReached world state
+pub leads_on : (world : World) (state : State) (outcome : Outcome) → GoesOn outcome → StepsOn world state outcome → IsStepping world state
 leads_on world state Asks goes h = h
 leads_on world state Goes goes h = h
 leads_on world state (Ends ending) goes h = absurd goes

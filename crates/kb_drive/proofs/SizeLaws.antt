@@ -8,7 +8,7 @@ use Rattle.kb_frames.specs.declared.value.Outcome.{Outcome}
 use Rattle.kb_frames.specs.declared.value.Outcome.TheVariants.{Asks, Goes, Ends, Cut}
 use Rattle.kb_frames.specs.State.{State}
 use Rattle.kb_drive.specs.Steps.{GoesOn, StepsLead, rank_of}
-use Rattle.kb_drive.specs.Taking.{choices_at, taken_at}
+use Rattle.kb_steps.specs.Taking.{choices_at, taken_at}
 use Rattle.kb_drive.specs.Walks.{size_behind, size_of, size_of_choices, size_within}
 use Rattle.kb_drive.proofs.SumLaws.{sum_more}
 

@@ -34,7 +34,7 @@ use Rattle.kb_drive.specs.Values.{followed_by_zeros, AreGiven, CarriesGiven, Hav
 use Rattle.kb_drive.specs.Following.{follows, follows_outcome, given_after, has_more, input_of_piece, path_of_piece, waits_at, waits_on, walk_with, IfMet}
 use Rattle.kb_frames_laws.specs.Endings.{ended_in}
 use Rattle.kb_drive.specs.Running.{ran_behind}
-use Rattle.kb_drive.specs.Taking.{choices_at}
+use Rattle.kb_steps.specs.Taking.{choices_at}
 use Rattle.kb_drive.specs.Walks.{EachWaiting, IsFrom}
 use Rattle.kb_drive.proofs.GrowLaws.{variables_of_state}
 use Rattle.kb_drive.proofs.OpenLaws.{each_more}

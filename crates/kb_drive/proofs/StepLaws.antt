@@ -11,7 +11,7 @@ use Rattle.kb_drive.specs.declared.waiting.Waiting.{Waiting}
 use Rattle.kb_drive.specs.declared.walk.Walk.{Walk}
 use Rattle.kb_drive.specs.EmittedLaws.{InputsAreOfStates}
 use Rattle.kb_drive.specs.Following.{IsAskedWithin, IsKnown, IsReachedBehind, IsTakenFrom, IsTakenOf, alternative_next, follows, taken_from, waits_on, walk_with}
-use Rattle.kb_drive.specs.Taking.{taken_at}
+use Rattle.kb_steps.specs.Taking.{taken_at}
 use Rattle.kb_ways.specs.Reached.{IsReached}
 use Rattle.kb_drive.specs.Explorable.{IsExplorable}
 use Rattle.kb_frames_laws.specs.Endings.{EndingsMean}

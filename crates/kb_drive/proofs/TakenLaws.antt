@@ -13,7 +13,7 @@ use Rattle.kb_frames.specs.Paths.{path_of}
 use Rattle.kb_frames.proofs.FormedPaths.{roots_are_terms}
 use Rattle.kb_ways.specs.Reached.{IsReached}
 use Rattle.kb_ways.specs.Ways.{Take}
-use Rattle.kb_drive.specs.Reached.{GoesOnReached}
+use Rattle.kb_steps.specs.Stepping.{StepsOn}
 use Rattle.kb_drive.specs.declared.follow.Known.{Known}
 use Rattle.kb_drive.specs.declared.follow.Known.TheVariants.{Open, Met, Answered}
 use Rattle.kb_drive.specs.declared.follow.Next.{Next}
@@ -28,7 +28,7 @@ use Rattle.kb_drive.specs.Steps.{LeadsOn}
 use Rattle.kb_drive.specs.declared.stop.DriveStop.{DriveStop}
 use Rattle.kb_drive.specs.declared.stop.DriveStop.TheVariants.{Oracle, NoMemory}
 use Rattle.kb_drive.specs.Stops.{IfOracle, IsRefused, IsUnserved}
-use Rattle.kb_drive.specs.Taking.{taken_at}
+use Rattle.kb_steps.specs.Taking.{taken_at}
 use Rattle.kb_drive.specs.Values.{AreGiven, OfGiven}
 use Rattle.kb_drive.specs.Walks.{EachWaiting, IsFrom, IsRefined, IsWaiting, IsWalk, KeepsSources}
 use Rattle.kb_frames_laws.proofs.EndingLaws.{endings_mean}
@@ -145,8 +145,8 @@ module _ (world : World) (bounds : Bounds) (walk : Walk) (now : List Waiting) (t
   method_same : taken.piece.state.method ≡ walk.target
   method_same = subst (λ (t : Taken). t.piece.state.method ≡ walk.target) (sym was.is) is_behind.explored.method
 
-  goes_on : GoesOnReached world taken.piece.state taken.outcome
-  goes_on = subst (λ (t : Taken). GoesOnReached world t.piece.state t.outcome) (sym was.is) is_behind.leads
+  goes_on : StepsOn world taken.piece.state taken.outcome
+  goes_on = subst (λ (t : Taken). StepsOn world t.piece.state t.outcome) (sym was.is) is_behind.leads
 
   -- what the piece has become behind the take
   ran_formed : IfMet known (IsFormedOf world walk.target (ran_behind world bounds taken.piece.state taken.outcome).state)

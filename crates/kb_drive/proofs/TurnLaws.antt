@@ -1,5 +1,5 @@
 -- The turns of a run by the only ways on: what one of them does, and what they come to.
-use Rattle.std.proofs.Common.{◌≡◌, ◌≢◌, ℕ, zero, suc, ◌<◌, Bool, true, false, List, length, Some, None, refl, sym, ap, ◌∙◌, subst, arith, take_all}
+use Rattle.std.proofs.Common.{◌≡◌, ◌≢◌, ℕ, zero, suc, ◌<◌, Bool, true, false, List, Some, None, refl, sym, ap, ◌∙◌, subst, arith}
 use Rattle.std.specs.Prelude.{if◌then◌else◌}
 use Rattle.kb_heap.specs.declared.bounds.Bounds.{Bounds}
 use Rattle.kb_lazy.specs.Laws.{AreInRange}
@@ -8,19 +8,16 @@ use Rattle.kb_picture.specs.declared.choice.Choice.{Choice}
 use Rattle.kb_frames.specs.declared.value.Outcome.{Outcome}
 use Rattle.kb_frames.specs.declared.value.Outcome.TheVariants.{Asks, Goes, Ends, Cut}
 use Rattle.kb_frames.specs.State.{State}
-use Rattle.kb_terms.specs.Terms.{Extends}
-use Rattle.kb_ways.specs.Advancing.{IsAdvanced, only}
-use Rattle.kb_ways.specs.declared.advanced.Advanced.{Advanced}
-use Rattle.kb_ways.specs.declared.advanced.Advanced.TheVariants.{Chooses, Took}
+use Rattle.kb_ways.specs.Advancing.{only}
 use Rattle.kb_ways.specs.Reached.{IsReached}
 use Rattle.kb_ways.specs.Turns.{told}
 use Rattle.kb_ways.specs.Ways.{Take}
 use Rattle.kb_drive.specs.declared.running.Ran.{Ran}
 use Rattle.kb_drive.specs.declared.running.Ran.TheVariants as rans
-use Rattle.kb_drive.specs.Reached.{GoesOnReached, IsHeapReached}
+use Rattle.kb_steps.specs.Stepping.{IsStepping, StepsOn}
 use Rattle.kb_drive.specs.Running.{AreReachedOn, AreReachedWithin, IfGoesOn, IfOnly, TellsChoices, WentFurther, is_only, outcome_of, ran_by, run_behind, runs_on, runs_within, stays, told_ran, way_on}
 use Rattle.kb_drive.specs.Steps.{EndsIn, GoesOn, rank_of}
-use Rattle.kb_drive.specs.Taking.{choices_at}
+use Rattle.kb_steps.specs.Taking.{choices_at}
 use Rattle.kb_drive.proofs.EachLeads.{steps_lead}
 use Rattle.kb_drive.proofs.RunningLaws.{only_of, way_leads}
 
@@ -115,14 +112,14 @@ module _ (world : World) (bounds : Bounds) (old new : State) where
   tells_choices (rans.Ends ending) went = tt
   tells_choices (rans.Cut bound) went = tt
 
-  module _ (range : AreInRange bounds) (is : IsHeapReached world old) (reached : IsReached world new) where
-    left_behind : (ran : Ran) → is_only (choices_at world bounds old) ≡ true → told_ran new ran ≡ way_on world bounds old → GoesOnReached world new (outcome_of ran)
+  module _ (range : AreInRange bounds) (is : IsStepping world old) (reached : IsReached world new) where
+    left_behind : (ran : Ran) → is_only (choices_at world bounds old) ≡ true → told_ran new ran ≡ way_on world bounds old → StepsOn world new (outcome_of ran)
     left_behind ran e same =
         let leads = way_leads steps_lead world bounds range old is e in
-        subst (λ (t : Take). IsReached world t.state → GoesOnReached world t.state t.outcome) (sym same) leads.leads reached
+        subst (λ (t : Take). IsReached world t.state → StepsOn world t.state t.outcome) (sym same) leads.leads reached
 
-    pub leads_there : (ran : Ran) → WentFurther world bounds old new (Some ran) → GoesOnReached world new (outcome_of ran)
-    leads_there (rans.Chooses choices) went = subst (IsHeapReached world) (sym went.1) is
+    pub leads_there : (ran : Ran) → WentFurther world bounds old new (Some ran) → StepsOn world new (outcome_of ran)
+    leads_there (rans.Chooses choices) went = subst (IsStepping world) (sym went.1) is
     leads_there (rans.Ends ending) went = left_behind (rans.Ends ending) went.0 went.1
     leads_there (rans.Cut bound) went = left_behind (rans.Cut bound) went.0 went.1
 
@@ -137,17 +134,17 @@ module _ (world : World) (bounds : Bounds) (old new : State) where
     ends_there (rans.Cut bound) went = ends_behind (rans.Cut bound) went.0 went.1
 
     -- where the state goes on, steps lead on from there, and fewer follow
-    on_reached : (outcome : Outcome) → GoesOn outcome → GoesOnReached world new outcome → IsHeapReached world new
+    on_reached : (outcome : Outcome) → GoesOn outcome → StepsOn world new outcome → IsStepping world new
     on_reached Asks goes h = h
     on_reached Goes goes h = h
     on_reached (Ends ending) goes h = absurd goes
     on_reached (Cut bound) goes h = absurd goes
 
-    pub goes_on_there : WentFurther world bounds old new None → IsHeapReached world new
+    pub goes_on_there : WentFurther world bounds old new None → IsStepping world new
     goes_on_there went =
         let leads = way_leads steps_lead world bounds range old is went.0 in
         on_reached (way_on world bounds old).outcome went.1
-        (subst (λ (s : State). GoesOnReached world s (way_on world bounds old).outcome) (sym went.2) (leads.leads (subst (IsReached world) went.2 reached)))
+        (subst (λ (s : State). StepsOn world s (way_on world bounds old).outcome) (sym went.2) (leads.leads (subst (IsReached world) went.2 reached)))
 
     pub fewer_there : WentFurther world bounds old new None → rank_of world bounds new < rank_of world bounds old
     fewer_there went =
@@ -166,7 +163,7 @@ pub record RunsFrom (world : World) (bounds : Bounds) (first now : State) : Type
 pub runs_begin : (world : World) (bounds : Bounds) (first : State) → RunsFrom world bounds first first
 runs_begin world bounds first = record { left = suc (rank_of world bounds first); enough = omega arith; same = refl; way = λ way. way }
 
-module _ (world : World) (bounds : Bounds) (first old new : State) (is : IsHeapReached world old) (range : AreInRange bounds) (reached : IsReached world new) where
+module _ (world : World) (bounds : Bounds) (first old new : State) (is : IsStepping world old) (range : AreInRange bounds) (reached : IsReached world new) where
   further_from : (left : ℕ) → rank_of world bounds old < left → runs_on world bounds first ≡ runs_within left world bounds old
       → (AreReachedWithin left world bounds old → AreReachedOn world bounds first) → WentFurther world bounds old new None → RunsFrom world bounds first new
   further_from zero enough same way went = absurd (omega (arith, enough))
@@ -199,13 +196,3 @@ module _ (world : World) (bounds : Bounds) (first old new : State) (is : IsHeapR
 
   pub way_there : RunsFrom world bounds first old → (ran : Ran) → WentFurther world bounds old new (Some ran) → AreReachedOn world bounds first
   way_there from ran went = way_from from.left from.enough from.way ran went
-
--- ---- what a turn is told by
-
--- the terms stay the first ones, whatever became of the state
-pub advanced_terms : (world : World) (bounds : Bounds) (old new : State) (advanced : Advanced) → AreInRange bounds → IsHeapReached world old
-    → IsAdvanced (choices_at world bounds old) (way_on world bounds old) old new advanced → Extends old.nodes new.nodes
-advanced_terms world bounds old new (Chooses choices) range is advanced = subst (λ (s : State). Extends old.nodes s.nodes) (sym advanced.0) (record { kept = take_all (length old.nodes) old.nodes (omega arith) })
-advanced_terms world bounds old new (Took outcome) range is advanced =
-    let leads = way_leads steps_lead world bounds range old is (rw advanced.0 refl) in
-    subst (λ (t : Take). Extends old.nodes t.state.nodes) (sym advanced.1) leads.kept.terms

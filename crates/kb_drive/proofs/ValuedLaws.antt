@@ -1,16 +1,9 @@
 -- Values that were computed for the terms of a piece, as it goes on.
-use Rattle.std.proofs.Common.{◌≡◌, ℕ, ◌≤◌, ℤ, List, [], ◌∷◌, ◌++◌, length, take, drop, fold, Option, Some, None, refl, sym, ap, subst, ◌∙◌, arith, length-append}
+use Rattle.std.proofs.Common.{◌≡◌, ℕ, ◌≤◌, ℤ, List, [], ◌∷◌, ◌++◌, length, take, drop, fold, Option, Some, None, refl, sym, ap, ◌∙◌, arith, length-append}
 use Rattle.std.proofs.lemmas.List.{take-append-drop, take-append-le}
-use Rattle.kb_class.specs.Naming.{Has}
-use Rattle.kb_frames.specs.State.{State}
-use Rattle.kb_frames.specs.declared.value.Outcome.{Outcome}
 use Rattle.kb_heap.specs.declared.bounds.Bounds.{Bounds}
 use Rattle.kb_classes.specs.World.{World}
 use Rattle.kb_picture.specs.declared.choice.Choice.{Choice}
-use Rattle.kb_ways.specs.Turns.{told}
-use Rattle.kb_ways.specs.Ways.{Take}
-use Rattle.kb_lazy.specs.Laws.{AreInRange}
-use Rattle.kb_drive.specs.Reached.{IsHeapReached}
 use Rattle.kb_terms.specs.Terms.{AreFirstValues, Extends, node_value, values}
 use Rattle.kb_terms.specs.declared.node.Node.{Node}
 use Rattle.kb_terms.proofs.Computing.{first-few}
@@ -18,8 +11,6 @@ use Rattle.kb_terms.proofs.Values.{length-values, values-append, with_value}
 use Rattle.kb_drive.specs.declared.waiting.Taken.{Taken}
 use Rattle.kb_drive.specs.declared.waiting.Waiting.{Waiting}
 use Rattle.kb_drive.specs.Following.{IsTakenOf}
-use Rattle.kb_drive.specs.Taking.{choices_at, taken_at}
-use Rattle.kb_drive.proofs.EachLeads.{steps_lead}
 
 -- those that there are stay the first ones as further nodes get theirs
 first_of_run : (inputs done : List ℤ) (nodes : List Node) (count : ℕ) → count ≤ length done → take count (fold (with_value inputs) done nodes) ≡ take count done
@@ -36,12 +27,6 @@ first_stay inputs old new done e first =
     let few : length done ≤ length (values inputs old) = omega (arith, first-few inputs old done first, length-values inputs old) in
     first ∙ sym (first_of_run inputs (values inputs old) more (length done) few) ∙ sym (ap (take (length done)) (values-append inputs old more))
     ∙ ap (λ (ns : List Node). take (length done) (values inputs ns)) parts
-
--- the terms of a state stay the first ones as it goes on
-pub terms_stay : (world : World) (bounds : Bounds) (state new : State) (choice : Choice) (outcome : Outcome) → AreInRange bounds → IsHeapReached world state
-    → Has (choices_at world bounds state) choice → told new outcome ≡ taken_at world bounds state choice → Extends state.nodes new.nodes
-terms_stay world bounds state new choice outcome range reached offered is =
-    subst (λ (after : Take). Extends state.nodes after.state.nodes) (sym is) ((steps_lead world bounds state range reached).each choice offered).kept.terms
 
 -- a take leaves the values of the piece
 pub values_stay : (world : World) (bounds : Bounds) (first : Waiting) (choice : Option Choice) (taken : Taken) → IsTakenOf world bounds first choice taken

@@ -18,7 +18,7 @@ use Rattle.kb_drive.specs.Parts.{Alternative, IsInPart, Listed, Waits, alternati
 use Rattle.kb_drive.specs.Pieces.{IsPiece}
 use Rattle.kb_drive.specs.StatePaths.{IsPathOf}
 use Rattle.kb_drive.specs.Steps.{StepsLead}
-use Rattle.kb_drive.specs.Taking.{choices_at, taken_at}
+use Rattle.kb_steps.specs.Taking.{choices_at, taken_at}
 use Rattle.kb_drive.proofs.DivisionLaws.{Replaces, no_thing, same_thing, split_thing}
 use Rattle.kb_drive.proofs.PartLaws.{none_of, none_taken, one_of, parts_behind}
 use Rattle.kb_drive.proofs.PieceLaws.{instance_before}

@@ -32,7 +32,7 @@ use Rattle.kb_drive.specs.Parts.{Alternative, IsInPart, Listed, Waits, alternati
 use Rattle.kb_frames_laws.specs.Endings.{EndingsMean, ended_in}
 use Rattle.kb_drive.specs.Running.{ran_behind}
 use Rattle.kb_drive.specs.Steps.{LeadsOn, StepsLeadOn}
-use Rattle.kb_drive.specs.Taking.{choices_at, taken_at}
+use Rattle.kb_steps.specs.Taking.{choices_at, taken_at}
 use Rattle.kb_drive.specs.Walks.{AreRising, BeginWith, EachWaiting, IsFurther, IsRefined, IsRightPath, IsWaiting, IsWalk, StaysIn, size_behind, size_left, size_of, size_of_choices, size_waiting}
 use Rattle.kb_drive.proofs.DivisionLaws.{Replaces, replaces_within}
 use Rattle.kb_drive.proofs.FollowLaws.{IsRightNext, Succeeds, follows_rightly, size_next}

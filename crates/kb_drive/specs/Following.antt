@@ -18,7 +18,7 @@ use Rattle.kb_frames.specs.declared.value.Outcome.{Outcome}
 use Rattle.kb_frames.specs.declared.value.Outcome.TheVariants.{Asks, Goes, Ends, Cut}
 use Rattle.kb_frames.specs.Paths.{path_of, path_roots}
 use Rattle.kb_ways.specs.Ways.{Take}
-use Rattle.kb_drive.specs.Reached.{IsHeapReached}
+use Rattle.kb_steps.specs.Stepping.{IsStepping}
 use Rattle.kb_drive.specs.declared.piece.Piece.{Piece}
 use Rattle.kb_drive.specs.declared.waiting.Waiting.{Waiting}
 use Rattle.kb_drive.specs.declared.waiting.Taken.{Taken}
@@ -35,7 +35,7 @@ use Rattle.kb_frames_laws.specs.Endings.{ended_in}
 use Rattle.kb_drive.specs.declared.running.Ran.{Ran}
 use Rattle.kb_drive.specs.declared.running.Ran.TheVariants as rans
 use Rattle.kb_drive.specs.Running.{AreReachedOn, IfGoesOn, TellsChoices, outcome_of, ran_behind, told_ran}
-use Rattle.kb_drive.specs.Taking.{choices_at}
+use Rattle.kb_steps.specs.Taking.{choices_at}
 
 -- ---- an alternative that is taken
 
@@ -145,8 +145,8 @@ follows world bounds taken (Answered answer) = follows_answer world bounds taken
 -- ---- when it can follow
 
 abbrev pub CanFollowOutcome : World → Piece → Outcome → Type 0
-CanFollowOutcome world piece Asks = IsHeapReached world piece.state
-CanFollowOutcome world piece Goes = IsHeapReached world piece.state
+CanFollowOutcome world piece Asks = IsStepping world piece.state
+CanFollowOutcome world piece Goes = IsStepping world piece.state
 CanFollowOutcome world piece (Ends ending) =
     AreTerms piece.state.nodes (path_roots piece.state (EndedLeaf (ended_in piece.state ending (input_of_piece world piece))))
 CanFollowOutcome world piece (Cut bound) = AreTerms piece.state.nodes (path_roots piece.state OpenLeaf)

@@ -7,10 +7,7 @@ pub mod Compared
 pub mod ReadFirst
 pub mod Counts
 pub mod Values
-pub mod HeapMethods
-pub mod Reached
 pub mod Explorable
-pub mod Taking
 pub mod Steps
 pub mod Running
 pub mod StatePaths

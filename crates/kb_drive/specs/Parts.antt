@@ -11,7 +11,7 @@ use Rattle.kb_frames.specs.StandsFor.{IsInstanceOf}
 use Rattle.kb_ways.specs.Ways.{Take}
 use Rattle.kb_drive.specs.declared.piece.Piece.{Piece}
 use Rattle.kb_drive.specs.declared.waiting.Waiting.{Waiting}
-use Rattle.kb_drive.specs.Taking.{taken_at}
+use Rattle.kb_steps.specs.Taking.{taken_at}
 
 -- ---- alternatives
 

@@ -24,7 +24,7 @@ use Rattle.kb_frames_laws.specs.Meant.{with_first}
 use Rattle.kb_ways.specs.Reached.{IsReached}
 use Rattle.kb_ways.specs.Simulation.{HasInputOfState, IsOutcome}
 use Rattle.kb_ways.specs.Ways.{Take}
-use Rattle.kb_drive.specs.Reached.{GoesOnReached, IsHeapReached}
+use Rattle.kb_steps.specs.Stepping.{IsStepping, StepsOn}
 use Rattle.kb_drive.specs.declared.piece.Piece.{Piece}
 use Rattle.kb_drive.specs.Compared.{IsComparisonMade, IsSuchComparison}
 use Rattle.kb_drive.specs.ReadFirst.{AreReadFirst}
@@ -74,7 +74,7 @@ StandsForEach world target bounds state =
 
 -- A piece of the exploration of a method: a state from which steps lead on, and values that meet all its conditions.
 pub record IsPiece (world : World) (target : MethodId) (bounds : Bounds) (piece : Piece) : Type 0 where
-  pub reached : IsHeapReached world piece.state
+  pub reached : IsStepping world piece.state
   pub explored : IsExplored world target bounds (length piece.state.when) piece.values piece.state
   pub stands : StandsForEach world target bounds piece.state
 
@@ -92,7 +92,7 @@ pub record HasOutcome (world : World) (target : MethodId) (bounds : Bounds) (aft
 pub record IsBehind (world : World) (target : MethodId) (bounds : Bounds) (count : ℕ) (values : List ℤ) (after : Take) : Type 0 where
   pub explored : IsExplored world target bounds count values after.state
   pub reached : IsReached world after.state
-  pub leads : GoesOnReached world after.state after.outcome
+  pub leads : StepsOn world after.state after.outcome
   -- an input can be made of its picture, so that some input has its shape and meets those conditions
   pub picture : HasInputOfState world after.state
   pub ending : EndsIn world after.state after.outcome

@@ -13,7 +13,6 @@ use Rattle.kb_picture.specs.declared.picture.Seen.{Seen}
 use Rattle.kb_picture.specs.Instances.{IsInstance}
 use Rattle.kb_frames.specs.Cuts.{setting_of}
 use Rattle.kb_drive.specs.Runs.{starts_of, SomeReads}
-use Rattle.kb_drive.specs.Within.{IsLeafDecided}
 
 -- one of the runs reads that slot or element of the place, which it has not written before
 abbrev pub SomeReadsAt : Setting → List Config → ℕ → Option ℕ → Type 0
@@ -32,8 +31,9 @@ abbrev pub AreReadFirst : Setting → List Config → Input → List ℕ → Lis
 AreReadFirst s starts input places seen =
     (i : ℕ) (slot : Origin × Seen) → slice_get seen i ≡ Some slot → IsReadFirst s starts input places slot.0
 
--- Of each instance of a path that has ended or is cut, every seen slot is one that its run reads before it has written it.
+-- Of each instance of a path, whatever its leaf is, every seen slot is one that its run reads before it has written it: so an
+-- exploration splits the inputs by no slot that nobody reads.
 abbrev pub SeesWhatIsRead : World → MethodId → Bounds → Path → Type 0
 SeesWhatIsRead world target bounds path =
-    IsLeafDecided path.leaf → (input : Input) → IsTypeCorrect world target input → (instance_of : IsInstance path input)
+    (input : Input) → IsTypeCorrect world target input → (instance_of : IsInstance path input)
     → AreReadFirst (setting_of world bounds) (starts_of world target input) input instance_of.shape.places.objects path.picture.seen

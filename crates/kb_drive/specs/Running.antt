@@ -13,7 +13,7 @@ use Rattle.kb_ways.specs.Ways.{Take}
 use Rattle.kb_drive.specs.declared.running.Ran.{Ran}
 use Rattle.kb_drive.specs.declared.running.Ran.TheVariants as rans
 use Rattle.kb_drive.specs.Steps.{GoesOn, rank_of}
-use Rattle.kb_drive.specs.Taking.{choices_at, taken_at}
+use Rattle.kb_steps.specs.Taking.{choices_at, taken_at}
 
 -- ---- the only way on
 

@@ -20,8 +20,8 @@ use Rattle.kb_ways.specs.Advancing.{only}
 use Rattle.kb_ways.specs.Simulation.{AddsComparisons, AddsNoCondition, FollowsStep, HasInputOfState, Keeps, ReadsWhatItSees, TakesOneWay}
 use Rattle.kb_ways.specs.Ways.{Take}
 use Rattle.kb_lazy.specs.Laws.{AreInRange}
-use Rattle.kb_drive.specs.Reached.{GoesOnReached, IsHeapReached}
-use Rattle.kb_drive.specs.Taking.{choices_at, taken_at}
+use Rattle.kb_steps.specs.Stepping.{IsStepping, StepsOn}
+use Rattle.kb_steps.specs.Taking.{choices_at, taken_at}
 
 -- ---- outcomes
 
@@ -70,7 +70,7 @@ pub record LeadsOn (world : World) (bounds : Bounds) (old : State) (after : Take
   pub stays : StaysAtInputs old.picture after.state.picture
   pub ending : EndsIn world after.state after.outcome
   -- where its state goes on, steps lead on from there
-  pub leads : IsReached world after.state → GoesOnReached world after.state after.outcome
+  pub leads : IsReached world after.state → StepsOn world after.state after.outcome
   pub fewer : GoesOn after.outcome → rank_of world bounds after.state < rank_of world bounds old
 
 -- Each alternative of a state leads on, and each input goes one way. The only way on adds no condition.
@@ -82,4 +82,4 @@ pub record StepsLead (world : World) (bounds : Bounds) (state : State) : Type 0 
 -- It is so for every state to which `start` and later calls lead, and from which steps lead on.
 abbrev pub StepsLeadOn : Type 0
 StepsLeadOn =
-    (world : World) (bounds : Bounds) (state : State) → AreInRange bounds → IsHeapReached world state → StepsLead world bounds state
+    (world : World) (bounds : Bounds) (state : State) → AreInRange bounds → IsStepping world state → StepsLead world bounds state

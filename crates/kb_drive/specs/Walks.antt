@@ -13,7 +13,7 @@ use Rattle.kb_frames.specs.declared.value.Outcome.{Outcome}
 use Rattle.kb_frames.specs.declared.value.Outcome.TheVariants.{Asks, Goes, Ends, Cut}
 use Rattle.kb_frames.specs.State.{State}
 use Rattle.kb_lazy.specs.Laws.{AreInRange}
-use Rattle.kb_drive.specs.Reached.{IsHeapReached}
+use Rattle.kb_steps.specs.Stepping.{IsStepping}
 use Rattle.kb_drive.specs.declared.waiting.Waiting.{Waiting}
 use Rattle.kb_drive.specs.declared.walk.Walk.{Walk}
 use Rattle.kb_drive.specs.Counts.{RoseBy, undecided_count}
@@ -27,7 +27,7 @@ use Rattle.kb_drive.specs.Parts.{IsInPart, decisions_of_part, parts_of}
 use Rattle.kb_drive.specs.Pieces.{IsPiece}
 use Rattle.kb_drive.specs.ReadFirst.{SeesWhatIsRead}
 use Rattle.kb_drive.specs.Steps.{rank_of}
-use Rattle.kb_drive.specs.Taking.{choices_at, taken_at}
+use Rattle.kb_steps.specs.Taking.{choices_at, taken_at}
 use Rattle.kb_drive.specs.Values.{AreGiven, HaveValuesFrom, OfGiven}
 
 -- ---- decisions
@@ -70,7 +70,7 @@ pub record IsWaiting (world : World) (target : MethodId) (bounds : Bounds) (wait
 
 -- its next alternative can be taken: it is there, and steps lead on
 pub record CanBeTaken (world : World) (bounds : Bounds) (waiting : Waiting) : Type 0 where
-  pub reached : IsHeapReached world waiting.piece.state
+  pub reached : IsStepping world waiting.piece.state
   pub range : AreInRange bounds
   pub choices : waiting.choices ≡ choices_at world bounds waiting.piece.state
   pub left : waiting.next < length waiting.choices

@@ -1,5 +1,5 @@
 //! Exploration: from a state to the paths that cover its inputs.
-ghost use Rattle.std.specs.Prelude.{◌≡◌, ◌≤◌, ℕ, ◌↔◌, true, [], IfOk, IfErr};
+ghost use Rattle.std.specs.Prelude.{◌≡◌, ◌≤◌, ℕ, ◌↔◌, [], IfOk, IfErr};
 ghost use Rattle.kb_outside.specs.Outside.{Rose};
 ghost use Rattle.kb_blast.specs.Query.{Query};
 ghost use Rattle.kb_world.specs.Reach.{IsAccepted};
@@ -8,7 +8,6 @@ ghost use Rattle.kb_drive.specs.Compared.{ComparesAsRuns};
 ghost use Rattle.kb_drive.specs.Counts.{RoseBy, undecided_count};
 ghost use Rattle.kb_picture.specs.Carried.{EachPath};
 ghost use Rattle.kb_drive.specs.Covers.{Covers, FindsFirst};
-ghost use Rattle.kb_drive.specs.HeapMethods.{is_heap_method};
 ghost use Rattle.kb_lazy.specs.Laws.{AreInRange};
 ghost use Rattle.kb_picture.specs.declared.choice.Init.TheVariants.{Lazy};
 ghost use Rattle.kb_drive.specs.Explorable.{IsExplorable};
@@ -51,7 +50,6 @@ pub fn explore_from<O: Oracle>(
 ) -> Result<Row<Path>, DriveStop>
     requires start { start ≡ start_state start.init start.method }
     requires accepted { IsAccepted world.now start.method }
-    requires heap { is_heap_method world.now start.method ≡ true }
     requires lazy { start.init ≡ Lazy }
     requires range { AreInRange bounds.now }
     requires some { 1 ≤ paths }

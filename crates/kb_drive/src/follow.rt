@@ -1,20 +1,19 @@
 //! What follows an alternative that was taken.
 ghost use Rattle.std.specs.Prelude.{◌≡◌, IfOk, OnOk};
 ghost use Rattle.kb_frames.specs.Paths.{path_roots};
-ghost use Rattle.kb_drive.specs.Reached.{IsHeapReached};
+ghost use Rattle.kb_steps.specs.Stepping.{IsStepping};
 ghost use Rattle.kb_terms.specs.Terms.{AreTerms};
 ghost use Rattle.kb_lazy.specs.Laws.{AreInRange};
 ghost use Rattle.kb_drive.specs.Following.{CanFollow, CanFollowOutcome, HasBecome, IsReachedBehind, follows, follows_answer, follows_on, follows_ran, path_of_piece, waits_at};
 ghost use Rattle.kb_drive.specs.declared.follow.Known.TheVariants.{Answered};
 ghost use Rattle.kb_drive.specs.declared.follow.Next.TheVariants as nexts;
 ghost use Rattle.kb_drive.specs.Running.{AreReachedOn, IfGoesOn, outcome_of, ran_behind};
-ghost use Rattle.kb_drive.specs.Taking.{choices_at};
+ghost use Rattle.kb_steps.specs.Taking.{choices_at};
 
 use crate::NoMemory;
 use crate::leaf::{cut_path, ended_path, path_of};
 use crate::piece::Piece;
 use crate::running::Ran;
-use crate::steps::choices;
 use crate::valued::Valued;
 use crate::waiting::{Taken, Waiting};
 use kb_frames::Outcome;
@@ -22,6 +21,7 @@ use kb_heap::Bounds;
 use kb_oracle::Answer;
 use kb_picture::{Choice, Leaf, Path};
 use kb_rows::{Held, Row};
+use kb_steps::choices;
 use kb_world::World;
 use std::alloc::Global;
 
@@ -154,12 +154,12 @@ pub(crate) fn begin(
     bounds: &Bounds,
     piece: Piece,
 ) -> Result<Next, NoMemory>
-    requires { IsHeapReached world.now piece.state }
+    requires { IsStepping world.now piece.state }
     ensures { IfOk result (λ next. next ≡ waits_at piece (choices_at world.now bounds.now piece.state)) }
 {
     let valued = Valued::new(alloc, piece)?;
     let choices = choices(alloc, world, &valued.get().state, bounds)?;
-    Ok(waits_at(valued, choices))
+    Ok(waits_at(valued, Row::from_vec(choices)))
 }
 
 // Where there is no alternative it has no inputs.

@@ -9,13 +9,11 @@
 mod ask;
 mod explore;
 mod follow;
-mod heap_methods;
 mod laws;
 mod leaf;
 mod met;
 mod piece;
 mod running;
-mod steps;
 mod stop;
 mod taking;
 mod valued;
@@ -23,11 +21,10 @@ mod waiting;
 mod walk;
 
 pub use explore::explore_from;
-pub use heap_methods::is_heap_method;
 pub use kb_rows::Row;
 pub use laws::{
-    endings_state_what_is_there, heap_methods_stay, inputs_within_the_bounds_end,
-    none_throws_within_the_bounds,
+    endings_state_what_is_there, inputs_within_the_bounds_end, none_throws_within_the_bounds,
+    steps_lead_on,
 };
 pub use piece::Piece;
 pub(crate) use std::alloc::AllocError as NoMemory;

@@ -3,16 +3,16 @@ ghost use Rattle.std.specs.Prelude.{◌≡◌, IfOk, OnOk};
 ghost use Rattle.kb_ways.specs.Reached.{IsReached};
 ghost use Rattle.kb_lazy.specs.Laws.{AreInRange};
 ghost use Rattle.kb_terms.specs.Terms.{Extends};
-ghost use Rattle.kb_drive.specs.Reached.{GoesOnReached, IsHeapReached};
+ghost use Rattle.kb_steps.specs.Stepping.{IsStepping, StepsOn};
 ghost use Rattle.kb_drive.specs.Running.{AreReachedOn, TellsChoices, WentFurther, outcome_of, ran_by, runs_on, told_ran};
 ghost use Rattle.kb_drive.specs.Steps.{EndsIn};
 
 use crate::NoMemory;
-use crate::steps::advance;
 use kb_frames::{Outcome, SymState};
 use kb_heap::{Bound, Bounds};
 use kb_picture::{Choice, SymEnding};
 use kb_rows::Row;
+use kb_steps::advance;
 use kb_ways::Advanced;
 use kb_world::World;
 use std::alloc::Global;
@@ -35,13 +35,13 @@ pub(crate) fn run_on(
     bounds: &Bounds,
     state: &mut SymState,
 ) -> Result<Ran, NoMemory>
-    requires reached { IsHeapReached world.now state.old }
+    requires reached { IsStepping world.now state.old }
     requires range { AreInRange bounds.now }
     ensures ran { IfOk result (λ ran. told_ran state.new ran ≡ runs_on world.now bounds.now state.old) }
     ensures choices { IfOk result (TellsChoices world.now bounds.now state.new) }
     ensures way { OnOk result (AreReachedOn world.now bounds.now state.old) }
     ensures reached { OnOk result (IsReached world.now state.new) }
-    ensures leads { IfOk result (λ ran. GoesOnReached world.now state.new (outcome_of ran)) }
+    ensures leads { IfOk result (λ ran. StepsOn world.now state.new (outcome_of ran)) }
     ensures ending { IfOk result (λ ran. EndsIn world.now state.new (outcome_of ran)) }
     ensures terms { OnOk result (Extends state.old.nodes state.new.nodes) }
 {
@@ -59,7 +59,7 @@ fn go_further(
     bounds: &Bounds,
     state: &mut SymState,
 ) -> Result<Option<Ran>, NoMemory>
-    requires reached { IsHeapReached world.now state.old }
+    requires reached { IsStepping world.now state.old }
     requires range { AreInRange bounds.now }
     ensures further { IfOk result (WentFurther world.now bounds.now state.old state.new) }
     ensures reached { OnOk result (IsReached world.now state.new) }

@@ -8,10 +8,10 @@ ghost use Rattle.kb_drive.specs.Walks.{CanBeTaken};
 
 use crate::NoMemory;
 use crate::piece::Piece;
-use crate::steps::take;
 use kb_frames::Outcome;
 use kb_heap::Bounds;
 use kb_picture::Choice;
+use kb_steps::take;
 use kb_world::World;
 use std::alloc::Global;
 

@@ -4,7 +4,7 @@ ghost use Rattle.kb_blast.specs.Meaning.{AreMetInPool};
 ghost use Rattle.kb_ways.specs.Reached.{IsReached};
 ghost use Rattle.kb_lazy.specs.Laws.{AreInRange};
 ghost use Rattle.kb_drive.specs.Following.{HasBecome, HaveMetFirst, IsTakenOf};
-ghost use Rattle.kb_drive.specs.Reached.{IsHeapReached};
+ghost use Rattle.kb_steps.specs.Stepping.{IsStepping};
 ghost use Rattle.kb_drive.specs.Running.{AreReachedOn, runs_on};
 ghost use Rattle.kb_drive.specs.Walks.{CanBeTaken};
 
@@ -107,7 +107,7 @@ impl Valued {
         world: &World,
         bounds: &Bounds,
     ) -> Result<(Valued, Ran), NoMemory>
-        requires reached { IsHeapReached world.now self.state }
+        requires reached { IsStepping world.now self.state }
         requires range { AreInRange bounds.now }
         ensures became { IfOk result (λ went. HasBecome world.now bounds.now self (runs_on world.now bounds.now self.state) went.0 went.1) }
         ensures way { OnOk result (AreReachedOn world.now bounds.now self.state) }

@@ -1,7 +1,6 @@
 pub mod AddedLaws
 pub mod ChoiceLaws
 pub mod ComparedLaws
-pub mod IntMethodLaws
 pub mod KeepLaws
 pub mod KeyLaws
 pub mod LookLaws

@@ -1,7 +1,6 @@
 pub mod Choices
 pub mod Effects
 pub mod Takes
-pub mod IntMethods
 pub mod Laws
 pub mod Keys
 pub mod Questions

@@ -1,26 +1,9 @@
 //! What holds of the int steps of every state. The functions do nothing: they carry the laws.
-ghost use Rattle.std.specs.Prelude.{◌≡◌, true};
-ghost use Rattle.kb_class.specs.declared.ids.MethodId.{MethodId};
-ghost use Rattle.kb_link.specs.Links.{IsLinked};
-ghost use Rattle.kb_classes.specs.World.{World};
 ghost use Rattle.kb_picture.specs.declared.choice.Choice.TheVariants.{Only};
-ghost use Rattle.kb_picture.specs.declared.choice.Init.{Init};
-ghost use Rattle.kb_frames.specs.Next.{next_is_int};
-ghost use Rattle.kb_frames.specs.State.{State, start_state};
 ghost use Rattle.kb_stepint.specs.Choices.{choices_of};
-ghost use Rattle.kb_stepint.specs.IntMethods.{is_int_method};
-ghost use Rattle.kb_ways.specs.Reached.{HasNoHandlers, IsAlone, IsReached};
 ghost use Rattle.kb_stepint.specs.Laws.{OfStates, OfTakes};
 ghost use Rattle.kb_ways.specs.Simulation.{AddsComparisons, AddsNoCondition, FollowsStep, GetsOn, HasInputOfState, Keeps, ReadsWhatItSees, TakesOneWay};
 ghost use Rattle.kb_stepint.specs.Takes.{taken};
-
-/// A method that is one over ints begins with a state that is reached (`begins`), it has no handlers (`unhandled`), and each
-/// reached state of it whose frame has no callers comes to an int step next (`steps`).
-pub fn int_methods_begin()
-    ensures begins { (world : World) (init : Init) (method : MethodId) → IsLinked world → is_int_method world method ≡ true → IsReached world (start_state init method) }
-    ensures unhandled { (world : World) (method : MethodId) → is_int_method world method ≡ true → HasNoHandlers world method }
-    ensures steps { (world : World) (state : State) → IsReached world state → IsAlone state.method state.stage → is_int_method world state.method ≡ true → next_is_int world state ≡ true }
-{}
 
 /// The int steps of a state simulate the step of the machine. Of each configuration that the state stands for exactly one
 /// alternative is taken (`one`), and the take goes where the machine's step goes (`outcome`).

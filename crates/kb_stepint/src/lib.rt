@@ -10,7 +10,6 @@ mod branching;
 mod choices;
 mod constants;
 mod instructions;
-mod int_methods;
 mod keys;
 mod laws;
 mod locals;
@@ -22,10 +21,8 @@ mod take;
 
 pub use advance::advance_int;
 pub use choices::choices_int;
-pub use int_methods::is_int_method;
 pub use laws::{
-    int_methods_begin, int_steps_get_on, int_steps_keep, int_steps_simulate,
-    int_steps_without_choice_add_no_condition,
+    int_steps_get_on, int_steps_keep, int_steps_simulate, int_steps_without_choice_add_no_condition,
 };
 pub use std::alloc::AllocError as NoMemory;
 pub use take::take_int;

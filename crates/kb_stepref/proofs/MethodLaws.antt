@@ -1,6 +1,6 @@
--- Where a step is on references, there is a next instruction, and it is one on references.
-use Rattle.std.proofs.Common.{◌≡◌, ℕ, Bool, true, false, true≢false, ◌||◌, is_some, Option, Some, None, refl, sym, ap, ◌∙◌}
-use Rattle.std.specs.Option.{option_map, option_map_or, option_and_then}
+-- Where a step is on references, there is a next instruction, and it is none of ints.
+use Rattle.std.proofs.Common.{◌≡◌, ℕ, true, false, true≢false, is_some, Option, Some, None, refl, sym, ap, ◌∙◌}
+use Rattle.std.specs.Option.{option_map, option_and_then}
 use Rattle.std.proofs.lemmas.Option.{none-some}
 use Rattle.kb_class.specs.declared.ids.MethodId.{MethodId}
 use Rattle.kb_class.specs.declared.members.MethodCode.{MethodCode}
@@ -12,14 +12,12 @@ use Rattle.kb_semantics.specs.Config.{info_of, instruction_at, instruction_in}
 use Rattle.kb_picture.specs.WellTyped.{is_reference_type}
 use Rattle.kb_frames.specs.Next.{argument_next, instruction_next, is_int, is_int_instruction, is_int_next, method_now, offset_now}
 use Rattle.kb_frames.specs.State.{State}
-use Rattle.kb_ways.specs.Built.{is_built_instruction, is_reference_instruction}
 use Rattle.kb_stepref.specs.Laws.{IsAtReferences}
 
--- The instruction of a method is one on references, and none of ints.
+-- The instruction of a method that is there is none of ints.
 pub record IsOnReferences (world : World) (method : MethodId) (instr : Instr) : Type 0 where
   pub there : is_some (info_of world method) ≡ true
   pub no_int : is_int_instruction world method instr ≡ false
-  pub reference : is_reference_instruction instr ≡ true
 
 -- Where a step is on references and all arguments are read, its instruction is such.
 pub reference_next : (world : World) (state : State) (found : Instr × ℕ) → IsAtReferences world state → argument_next world state.method state.stage ≡ None
@@ -29,22 +27,15 @@ reference_next world state found at none e =
     let no_int : is_int_instruction world (method_now state.method state.stage) found.0 ≡ false =
     ap (λ (o : Option Instr). is_int_next world (method_now state.method state.stage) o) (sym here)
     ∙ (ap (λ (o : Option JType). is_int (option_map is_reference_type o) (is_int_next world (method_now state.method state.stage) (instruction_next world state.method state.stage))) (sym none) ∙ at.next) in
-    let built : is_built_instruction world (method_now state.method state.stage) found.0 ≡ true =
-    ap (λ (o : Option Instr). option_map_or (is_built_instruction world (method_now state.method state.stage)) o true) (sym here) ∙ at.built in
     record {
       there = method_there (info_of world (method_now state.method state.stage)) e;
       no_int = no_int;
-      reference = second (is_int_instruction world (method_now state.method state.stage) found.0) (is_reference_instruction found.0) no_int built;
     }
   where
     method_there : (info : Option MethodInfo) → option_and_then (λ (code : MethodCode). instruction_in code.listing.items code.size (offset_now state.stage)) (option_and_then (λ (m : MethodInfo). m.code) info) ≡ Some found
         → is_some info ≡ true
     method_there None at = absurd (none-some found at)
     method_there (Some info) at = refl
-
-    second : (a b : Bool) → a ≡ false → (a || b) ≡ true → b ≡ true
-    second true b is either = absurd (true≢false is)
-    second false b is either = either
 
 -- There is one, since code that has run off its end is no step on references.
 pub some_next : (world : World) (state : State) → IsAtReferences world state → argument_next world state.method state.stage ≡ None

@@ -37,7 +37,7 @@ use Rattle.kb_frames.specs.State.{State}
 use Rattle.kb_frames.proofs.RunLaws.{counters_agree}
 use Rattle.kb_frames.proofs.ChosenLaws.{chosen_begun}
 use Rattle.kb_ways.specs.Simulation.{IsOutcome}
-use Rattle.kb_ways.specs.Ways.{Take, ill_typed, went}
+use Rattle.kb_ways.specs.Ways.{Fails, Take, ill_typed, went}
 use Rattle.kb_ways.proofs.BegunLaws.{place_same}
 use Rattle.kb_ways.proofs.StepLaws.{step_taken, stores_taken}
 use Rattle.kb_ways.proofs.OutcomeStands.{Running, running}
@@ -46,7 +46,7 @@ use Rattle.kb_ways.proofs.OutcomeWays.{ill_typed_is, went_is}
 use Rattle.kb_ways.proofs.PastLaws.{cut_by_steps}
 use Rattle.kb_ways.proofs.SoundLaws.{Sound, begun_sound, sound_reached}
 use Rattle.kb_ways.proofs.ValueLaws.{IsOrdered, pool_ordered}
-use Rattle.kb_ways.specs.Plans.{Planned, carried_out, followed, takes_next, takes_up}
+use Rattle.kb_ways.specs.Plans.{Planned, carried_out, followed, plain, takes_next, takes_up}
 use Rattle.kb_stepref.specs.Effects.{branches_null, branches_same, gets, loads, plan_of, pushes_null, returns_reference, stores as stores_sym, throws_top}
 use Rattle.kb_stepref.specs.Laws.{IsAtReferences}
 use Rattle.kb_ways.specs.declared.question.Question.TheVariants.{Reads}
@@ -143,7 +143,9 @@ module _ (world : World) (bounds : Bounds) (base : State) (frame : SymFrame) (ca
   carried_follows choice next (instrs.InstanceOf entry) is told stored e = plan_follows world bounds at next _ (tells_type world state entry) (tells_type_is world bounds at next entry) stored e
   carried_follows choice next (instrs.Ldc entry) is told stored e =
       plan_follows world bounds at next _ (loads_literal world state entry) (loads_literal_is world bounds at next entry is.no_int is.there) stored e
-  carried_follows choice next _ is told stored e = absurd (true≢false (sym is.reference))
+  -- an instruction that is left out is ill-typed there too
+  carried_follows choice next (instrs.Other op) is told stored e = plain_follows next _ (plain state Fails) (refl, refl) stored e
+  carried_follows choice next _ is told stored e = absurd (true≢false is.no_int)
 
   module _ (within : nat_le bounds.run.steps base.carried ≡ false) where
     within_now : nat_le s.bounds.steps c.carried ≡ false

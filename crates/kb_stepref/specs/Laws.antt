@@ -9,14 +9,13 @@ use Rattle.kb_picture.specs.declared.choice.Choice.{Choice}
 use Rattle.kb_picture.specs.declared.choice.Init.TheVariants.{Lazy}
 use Rattle.kb_frames.specs.State.{State}
 use Rattle.kb_frames.specs.Next.{next_is_int}
-use Rattle.kb_ways.specs.Built.{IsBuiltNext}
 use Rattle.kb_ways.specs.Reached.{IsReached}
 use Rattle.kb_ways.specs.Ways.{Take}
 pub use Rattle.kb_steparray.specs.Arrays.{AreCounted}
 use Rattle.kb_stepref.specs.Choices.{choices_of}
 use Rattle.kb_stepref.specs.Takes.{taken}
 
--- The next step of the state is one on references that is built: it is none of ints.
+-- The next step of the state is one on references: it is none of ints.
 pub record IsAtReferences (world : World) (state : State) : Type 0 where
   pub reached : IsReached world state
   pub linked : IsLinked world
@@ -27,7 +26,6 @@ pub record IsAtReferences (world : World) (state : State) : Type 0 where
   pub within : HasNoBeyond state.picture
   -- and so is one that met an array above the bound: an int counts the elements of each
   pub bounded : AreCounted state.picture
-  pub built : IsBuiltNext world state
   pub next : next_is_int world state ≡ false
 
 -- it holds of each such state

@@ -30,7 +30,7 @@ use std::alloc::Global;
 /// condition that is decided as false is left out.
 ///
 /// The state is one to which `start` and later calls lead in this world under lazy initialisation, and whose next step is one on
-/// references that is built. It takes time in proportion to the objects of the picture, the universe and the list that it gives.
+/// references. It takes time in proportion to the objects of the picture, the universe and the list that it gives.
 ///
 /// Source: Khurshid, Păsăreanu and Visser (TACAS 2003).
 pub fn choices_ref(

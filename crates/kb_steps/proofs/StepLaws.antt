@@ -1,4 +1,4 @@
--- What the steps of states need of them, and that steps leave such states.
+-- What the steps of states need of them, and that steps leave such states and keep the terms.
 use Rattle.std.proofs.Common.{◌≡◌, Bool, true, false, List, Option, Some, None, refl, sym, subst, ◌∙◌, if◌then◌else◌}
 use Rattle.std.specs.Option.{option_map_or}
 use Rattle.kb_class.specs.Naming.{Has}
@@ -14,8 +14,9 @@ use Rattle.kb_frames.specs.declared.value.Outcome.TheVariants.{Asks, Goes, Ends,
 use Rattle.kb_frames.specs.Lent.{read_count}
 use Rattle.kb_frames.specs.Next.{argument_next, next_is_int}
 use Rattle.kb_frames.specs.State.{State}
+use Rattle.kb_terms.specs.Terms.{Extends}
+use Rattle.kb_terms.proofs.Values.{Extends-refl}
 use Rattle.kb_ways.specs.Advancing.{IsAdvanced}
-use Rattle.kb_ways.specs.Built.{IsBuiltNext}
 use Rattle.kb_ways.specs.Plans.{takes_next}
 use Rattle.kb_ways.specs.Reached.{IsReached}
 use Rattle.kb_ways.specs.Simulation.{Keeps}
@@ -30,21 +31,21 @@ use Rattle.kb_stepint.proofs.KeepLaws.{kept as int_kept, takes_next_stays}
 use Rattle.kb_stepref.specs.Choices.{choices_of as reference_choices}
 use Rattle.kb_stepref.specs.Laws.{IsAtReferences}
 use Rattle.kb_stepref.specs.Takes.{taken as reference_taken}
+use Rattle.kb_stepref.proofs.KeepLaws.{kept as reference_kept}
 use Rattle.kb_stepref.proofs.ReachedLaws.{IsKnown, IsKnownUnlessCut, IsPlain, goes_on_known, int_plain}
 use Rattle.kb_steps.specs.Stepping.{AdvancesOn, IsStepping, StepsOn}
 use Rattle.kb_steps.specs.Taking.{choices_at, taken_at}
 
 -- ---- what the next step needs
 
-pub at_references : (world : World) (state : State) → IsStepping world state → IsBuiltNext world state → next_is_int world state ≡ false → IsAtReferences world state
-at_references world state h built next = record {
+pub at_references : (world : World) (state : State) → IsStepping world state → next_is_int world state ≡ false → IsAtReferences world state
+at_references world state h next = record {
   reached = h.reached;
   linked = h.linked;
   lazy = h.lazy;
   known = h.known;
   within = h.within;
   bounded = h.bounded;
-  built = built;
   next = next;
 }
 
@@ -57,10 +58,10 @@ stepping_on world state (Ends ending) h = h
 stepping_on world state (Cut bound) h = tt
 
 -- a take whose state is one that is reached
-abbrev LeadsOn : World → Take → Type 0
+abbrev pub LeadsOn : World → Take → Type 0
 LeadsOn world take = IsReached world take.state → StepsOn world take.state take.outcome
 
-ints_lead : (world : World) (bounds : Bounds) (state : State) (choice : Choice) → IsStepping world state → LeadsOn world (int_taken world bounds state choice)
+pub ints_lead : (world : World) (bounds : Bounds) (state : State) (choice : Choice) → IsStepping world state → LeadsOn world (int_taken world bounds state choice)
 ints_lead world bounds state choice h reached =
     stepping_on world (int_taken world bounds state choice).state (int_taken world bounds state choice).outcome
     record {
@@ -81,10 +82,10 @@ ints_lead world bounds state choice h reached =
       go None = subst IsPlain (sym (takes_next_stays world bounds choice state).picture) (h.known, h.within, h.bounded)
       go (Some type) = int_plain state.picture (Arg (read_count state.stage)) (h.known, h.within, h.bounded)
 
-references_lead : (world : World) (bounds : Bounds) (state : State) (choice : Choice) → AreInRange bounds → IsStepping world state → IsBuiltNext world state → next_is_int world state ≡ false
+pub references_lead : (world : World) (bounds : Bounds) (state : State) (choice : Choice) → AreInRange bounds → IsStepping world state → next_is_int world state ≡ false
     → Has (reference_choices world state bounds) choice → LeadsOn world (reference_taken world bounds state choice)
-references_lead world bounds state choice range h built next has reached =
-    go (reference_taken world bounds state choice).outcome (goes_on_known world bounds state choice range (at_references world state h built next) has)
+references_lead world bounds state choice range h next has reached =
+    go (reference_taken world bounds state choice).outcome (goes_on_known world bounds state choice range (at_references world state h next) has)
   where
     after : State
     after = (reference_taken world bounds state choice).state
@@ -98,23 +99,41 @@ references_lead world bounds state choice range h built next has reached =
     go (Ends ending) is = stepping is
     go (Cut bound) is = tt
 
-takes_lead : (world : World) (bounds : Bounds) (state : State) (choice : Choice) → AreInRange bounds → IsStepping world state → IsBuiltNext world state
+takes_lead : (world : World) (bounds : Bounds) (state : State) (choice : Choice) → AreInRange bounds → IsStepping world state
     → Has (choices_at world bounds state) choice → LeadsOn world (taken_at world bounds state choice)
-takes_lead world bounds state choice range h built has = go (next_is_int world state) refl has where
+takes_lead world bounds state choice range h has = go (next_is_int world state) refl has where
   go : (b : Bool) → next_is_int world state ≡ b → Has (if b then int_choices world state bounds else reference_choices world state bounds) choice
       → LeadsOn world (if b then int_taken world bounds state choice else reference_taken world bounds state choice)
   go true ints offered = ints_lead world bounds state choice h
-  go false references offered = references_lead world bounds state choice range h built references offered
+  go false references offered = references_lead world bounds state choice range h references offered
+
+-- ---- what a take keeps
+
+-- the terms stay the first ones
+takes_keep : (world : World) (bounds : Bounds) (state : State) (choice : Choice) → IsStepping world state → Extends state.nodes (taken_at world bounds state choice).state.nodes
+takes_keep world bounds state choice h = go (next_is_int world state) refl where
+  go : (b : Bool) → next_is_int world state ≡ b → Extends state.nodes (if b then int_taken world bounds state choice else reference_taken world bounds state choice).state.nodes
+  go true ints = (int_kept world bounds state choice).terms
+  go false references = (reference_kept world bounds state choice (at_references world state h references)).terms
 
 -- ---- as the functions tell it
 
-pub takes_on : (world : World) (bounds : Bounds) (old new : State) (choice : Choice) (outcome : Outcome) → AreInRange bounds → IsStepping world old → IsBuiltNext world old
+pub takes_on : (world : World) (bounds : Bounds) (old new : State) (choice : Choice) (outcome : Outcome) → AreInRange bounds → IsStepping world old
     → Has (choices_at world bounds old) choice → told new outcome ≡ taken_at world bounds old choice → IsReached world new → StepsOn world new outcome
-takes_on world bounds old new choice outcome range h built has same reached =
-    subst (LeadsOn world) (sym same) (takes_lead world bounds old choice range h built has) reached
+takes_on world bounds old new choice outcome range h has same reached =
+    subst (LeadsOn world) (sym same) (takes_lead world bounds old choice range h has) reached
 
-pub advances_on : (world : World) (bounds : Bounds) (old new : State) (advanced : Advanced) → AreInRange bounds → IsStepping world old → IsBuiltNext world old
+pub advances_on : (world : World) (bounds : Bounds) (old new : State) (advanced : Advanced) → AreInRange bounds → IsStepping world old
     → IsAdvanced (choices_at world bounds old) (taken_at world bounds old Only) old new advanced → IsReached world new → AdvancesOn world new advanced
-advances_on world bounds old new (Chooses choices) range h built is reached = subst (IsStepping world) (sym is.0) h
-advances_on world bounds old new (Took outcome) range h built is reached =
-    takes_on world bounds old new Only outcome range h built (subst (λ (offered : List Choice). Has offered Only) (sym is.0) (0, refl)) is.1 reached
+advances_on world bounds old new (Chooses choices) range h is reached = subst (IsStepping world) (sym is.0) h
+advances_on world bounds old new (Took outcome) range h is reached =
+    takes_on world bounds old new Only outcome range h (subst (λ (offered : List Choice). Has offered Only) (sym is.0) (0, refl)) is.1 reached
+
+pub takes_terms : (world : World) (bounds : Bounds) (old new : State) (choice : Choice) (outcome : Outcome) → IsStepping world old → told new outcome ≡ taken_at world bounds old choice
+    → Extends old.nodes new.nodes
+takes_terms world bounds old new choice outcome h same = subst (λ (take : Take). Extends old.nodes take.state.nodes) (sym same) (takes_keep world bounds old choice h)
+
+pub advances_terms : (world : World) (bounds : Bounds) (old new : State) (advanced : Advanced) → IsStepping world old
+    → IsAdvanced (choices_at world bounds old) (taken_at world bounds old Only) old new advanced → Extends old.nodes new.nodes
+advances_terms world bounds old new (Chooses choices) h is = subst (λ (state : State). Extends old.nodes state.nodes) (sym is.0) (Extends-refl old.nodes)
+advances_terms world bounds old new (Took outcome) h is = takes_terms world bounds old new Only outcome h is.1

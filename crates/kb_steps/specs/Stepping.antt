@@ -1,6 +1,5 @@
--- The state that a method begins with, and what holds of every state to which it and later steps lead under lazy initialisation.
--- Beside what holds of each reached state that is what the laws of steps ask of a state, but that its next instruction is built: a
--- method that was called may have one that is not.
+-- The state that a method begins with, and what holds of every state to which it and later steps lead under lazy initialisation,
+-- whatever methods were called: what holds of each reached state, and what the laws of steps ask of a state beside it.
 use Rattle.std.specs.Prelude.{◌≡◌, Bool, true, false, [], Option, None, Some, if◌then◌else◌}
 use Rattle.std.specs.Option.{option_and_then}
 use Rattle.kb_class.specs.declared.ids.MethodId.{MethodId}

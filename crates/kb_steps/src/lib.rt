@@ -1,5 +1,5 @@
 //! The steps of a state over a heap, whichever kind comes next: how a method begins, what it can do next, and what becomes of it.
-//! It is for programs that take states on by themselves, without a solver.
+//! Explorations take states on by them, and so do programs that have no solver.
 //!
 //! `specs/Stepping.antt` has what holds of each state on its way, `specs/Taking.antt` the alternatives of a step and what a take
 //! makes of a state.
@@ -10,4 +10,4 @@ mod steps;
 
 pub use beginning::begin;
 pub(crate) use std::alloc::AllocError as NoMemory;
-pub use steps::{advance, choices, goes_on, is_built_next, take};
+pub use steps::{advance, choices, goes_on, take};

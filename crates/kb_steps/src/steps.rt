@@ -1,14 +1,12 @@
 //! What a state can do next, and what becomes of it.
 ghost use Rattle.std.specs.Prelude.{◌≡◌, true, IfOk, OnOk};
-ghost use Rattle.std.specs.Option.{option_map_or};
 ghost use Rattle.kb_class.specs.Naming.{Has};
 ghost use Rattle.kb_classes.specs.World.{World as PlainWorld};
 ghost use Rattle.kb_picture.specs.declared.choice.Choice.TheVariants.{Only};
 ghost use Rattle.kb_lazy.specs.Laws.{AreInRange};
-ghost use Rattle.kb_frames.specs.Next.{instruction_next, method_now};
 ghost use Rattle.kb_frames.specs.State.{State};
+ghost use Rattle.kb_terms.specs.Terms.{Extends};
 ghost use Rattle.kb_ways.specs.Advancing.{IsAdvanced};
-ghost use Rattle.kb_ways.specs.Built.{IsBuiltNext, is_built_instruction};
 ghost use Rattle.kb_ways.specs.Reached.{IsReached};
 ghost use Rattle.kb_ways.specs.Turns.{told};
 ghost use Rattle.kb_steps.specs.Stepping.{AdvancesOn, IsStepping, StepsOn, goes_on};
@@ -17,24 +15,12 @@ ghost use Rattle.kb_steps.specs.Taking.{choices_at, taken_at};
 use crate::NoMemory;
 use kb_frames::{Outcome, SymState};
 use kb_heap::Bounds;
-use kb_lookups::instruction_at;
 use kb_picture::Choice;
 use kb_stepint::{advance_int, choices_int, take_int};
 use kb_stepref::{advance_ref, choices_ref, take_ref};
-use kb_ways::{Advanced, is_built_instruction};
+use kb_ways::Advanced;
 use kb_world::World;
 use std::alloc::Global;
-
-/// Whether the next instruction of a state is one that is built, where there is one. It takes no memory.
-pub fn is_built_next(world: &World, state: &SymState) -> bool
-    ensures { result ≡ option_map_or (is_built_instruction world.now (method_now state.now.method state.now.stage)) (instruction_next world.now state.now.method state.now.stage) true }
-{
-    let (method, at) = state.stands_at();
-    match instruction_at(world, method, at) {
-        Some(found) => is_built_instruction(world, method, found.instr),
-        None => true,
-    }
-}
 
 /// The alternatives of the next step of a state, in their order.
 pub fn choices(
@@ -43,8 +29,7 @@ pub fn choices(
     state: &SymState,
     bounds: &Bounds,
 ) -> Result<Vec<Choice>, NoMemory>
-    requires stepping { IsStepping world.now state.now }
-    requires built { IsBuiltNext world.now state.now }
+    requires { IsStepping world.now state.now }
     ensures { IfOk result (λ choices. choices.items ≡ choices_at world.now bounds.now state.now) }
 {
     if state.next_is_int(world) {
@@ -62,12 +47,12 @@ pub fn take(
     bounds: &Bounds,
 ) -> Result<Outcome, NoMemory>
     requires stepping { IsStepping world.now state.old }
-    requires built { IsBuiltNext world.now state.old }
     requires range { AreInRange bounds.now }
     requires offered { Has (choices_at world.now bounds.now state.old) choice.now }
     ensures take { IfOk result (λ outcome. told state.new outcome ≡ taken_at world.now bounds.now state.old choice.now) }
     ensures reached { OnOk result (IsReached world.now state.new) }
     ensures on { IfOk result (StepsOn world.now state.new) }
+    ensures terms { OnOk result (Extends state.old.nodes state.new.nodes) }
 {
     if state.next_is_int(world) {
         let outcome = take_int(alloc, world, state, choice, bounds)?;
@@ -86,11 +71,11 @@ pub fn advance(
     bounds: &Bounds,
 ) -> Result<Advanced, NoMemory>
     requires stepping { IsStepping world.now state.old }
-    requires built { IsBuiltNext world.now state.old }
     requires range { AreInRange bounds.now }
     ensures advanced { IfOk result (IsAdvanced (choices_at world.now bounds.now state.old) (taken_at world.now bounds.now state.old Only) state.old state.new) }
     ensures reached { OnOk result (IsReached world.now state.new) }
     ensures on { IfOk result (AdvancesOn world.now state.new) }
+    ensures terms { OnOk result (Extends state.old.nodes state.new.nodes) }
 {
     if state.next_is_int(world) {
         let advanced = advance_int(alloc, world, state, bounds)?;

@@ -1,4 +1,3 @@
-pub mod AloneLaws
 pub mod AskedLaws
 pub mod BegunLaws
 pub mod CallLaws

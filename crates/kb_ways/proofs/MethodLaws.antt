@@ -1,13 +1,12 @@
 -- What a method of a linked world has: the keys of its switches rise, and before its arguments are read nothing is seen.
-use Rattle.std.proofs.Common.{◌≡◌, ℕ, zero, suc, Bool, true, false, ◌&&◌, cond, List, [], ◌∷◌, Option, Some, IfSome, slice_get, nat_eq, refl, sym, ap, ◌∙◌, subst, None}
-use Rattle.std.specs.List.{AllByRecursion, list_all}
+use Rattle.std.proofs.Common.{◌≡◌, ℕ, zero, suc, Bool, true, false, cond, List, [], ◌∷◌, Option, Some, IfSome, slice_get, nat_eq, refl, sym, ap, ◌∙◌, subst, None}
+use Rattle.std.specs.List.{AllByRecursion}
 use Rattle.std.specs.Option.{option_and_then}
 use Rattle.kb_class.specs.declared.ids.MethodId.{MethodId}
 use Rattle.kb_class.specs.declared.members.MethodCode.{MethodCode}
 use Rattle.kb_class.specs.declared.members.MethodInfo.{MethodInfo}
 use Rattle.kb_code.specs.Listing.{HasRisingKeys, offset_of}
 use Rattle.kb_code.specs.declared.instruction.Instr.{Instr}
-use Rattle.kb_code.specs.declared.listing.Handler.{Handler}
 use Rattle.kb_link.specs.Links.{IsLinked}
 use Rattle.kb_classes.specs.Rules.{HasItsPlaces, HasPlacedCode}
 use Rattle.kb_classes.specs.World.{World, methods_in}
@@ -16,32 +15,17 @@ use Rattle.kb_picture.specs.declared.choice.Init.{Init}
 use Rattle.kb_picture.specs.WellTyped.{IsWellTyped}
 use Rattle.kb_frames.specs.State.{start_state}
 use Rattle.kb_frames.specs.States.{IsState}
-use Rattle.kb_ways.specs.Reached.{has_none, SwitchesRise}
+use Rattle.kb_ways.specs.Reached.{SwitchesRise}
 
 -- ---- its code
 
-pub and_both : (a b : Bool) → (a && b) ≡ true → (a ≡ true) × (b ≡ true)
-and_both true b e = (refl, e)
-and_both false b e = absurd cc
-
-pub code_found : (world : World) (id : MethodId) (info : MethodInfo) (code : MethodCode) → info_of world id ≡ Some info → info.code ≡ Some code → code_of world id ≡ Some code
+code_found : (world : World) (id : MethodId) (info : MethodInfo) (code : MethodCode) → info_of world id ≡ Some info → info.code ≡ Some code → code_of world id ≡ Some code
 code_found world id info code info_is there = rw info_is there
-
--- ---- arguments
-
-pub all_at : {A : Type 0} (test : A → Bool) (xs : List A) (i : ℕ) (x : A) → list_all test xs ≡ true → slice_get xs i ≡ Some x → test x ≡ true
-all_at test [] i x all e = absurd cc
-all_at test (y ∷ ys) zero x all e = let same : y ≡ x = cc in rw (sym same) (and_both (test y) (list_all test ys) all).0
-all_at test (y ∷ ys) (suc i) x all e = all_at test ys i x (and_both (test y) (list_all test ys) all).1 e
 
 -- ---- instructions
 
-pub all_passed : {A : Type 0} (test : A → Bool) (xs : List A) → list_all test xs ≡ true → AllByRecursion (λ x. test x ≡ true) xs
-all_passed test [] all = tt
-all_passed test (x ∷ xs) all = let both = and_both (test x) (list_all test xs) all in (both.0, all_passed test xs both.1)
-
 -- what holds of each instruction of a listing holds of one that is found there
-pub found_has : (P : Instr → Type 0) (items : List (ℕ × Instr)) (size at : ℕ) (found : Instr × ℕ) → AllByRecursion (λ (item : ℕ × Instr). P item.1) items
+found_has : (P : Instr → Type 0) (items : List (ℕ × Instr)) (size at : ℕ) (found : Instr × ℕ) → AllByRecursion (λ (item : ℕ × Instr). P item.1) items
     → instruction_in items size at ≡ Some found → P found.0
 found_has P [] size at found all e = absurd cc
 found_has P (item ∷ rest) size at found all e = go (nat_eq item.0 at) (λ later. found_has P rest size at found all.1 later) e where
@@ -55,7 +39,7 @@ found_method P [] number info all e = absurd cc
 found_method P (first ∷ others) zero info all e = let same : first ≡ info = cc in subst P same all.0
 found_method P (first ∷ others) (suc number) info all e = found_method P others number info all.1 e
 
-pub switches_rise : (world : World) (id : MethodId) (info : MethodInfo) (code : MethodCode) → IsLinked world → info_of world id ≡ Some info → info.code ≡ Some code
+switches_rise : (world : World) (id : MethodId) (info : MethodInfo) (code : MethodCode) → IsLinked world → info_of world id ≡ Some info → info.code ≡ Some code
     → (at : ℕ) (found : Instr × ℕ) → instruction_at world id at ≡ Some found → HasRisingKeys found.0
 switches_rise world id info code linked info_is there at found e =
     let placed : HasPlacedCode info = found_method HasPlacedCode (methods_in world.classes) id.0 info linked.loaded.methods.placed info_is in
@@ -95,7 +79,3 @@ start_typed world init method sound = record {
 } where
   no_at : {A : Type 0} (i : ℕ) (x : A) → slice_get [] i ≡ Some x → ⊥
   no_at i x e = absurd cc
-
-pub handlers_none : (handlers : List Handler) → has_none handlers ≡ true → handlers ≡ []
-handlers_none [] e = refl
-handlers_none (handler ∷ others) e = absurd cc

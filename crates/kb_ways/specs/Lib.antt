@@ -12,6 +12,5 @@ pub mod Turns
 pub mod Advancing
 pub mod Needs
 pub mod Reached
-pub mod Built
 pub mod Measure
 pub mod Simulation

@@ -1,36 +1,21 @@
 -- What holds of every state to which `start` and later calls lead, of every method that reach accepts, beside what every state
--- keeps. Apart from it stands what holds where nothing was called, and of a method without handlers.
-use Rattle.std.specs.Prelude.{◌≡◌, ℕ, Bool, true, false, List, [], ◌∷◌, Some}
+-- keeps.
+use Rattle.std.specs.Prelude.{◌≡◌, ℕ, false, [], ◌∷◌, Some}
 use Rattle.std.specs.List.{list_any}
 use Rattle.std.specs.Option.{option_map_or}
 use Rattle.kb_class.specs.declared.ids.MethodId.{MethodId}
-use Rattle.kb_class.specs.declared.members.MethodCode.{MethodCode}
 use Rattle.kb_class.specs.declared.members.MethodInfo.{MethodInfo}
 use Rattle.kb_code.specs.declared.instruction.Instr.{Instr}
-use Rattle.kb_code.specs.declared.listing.Handler.{Handler}
 use Rattle.kb_code.specs.Listing.{HasRisingKeys}
 use Rattle.kb_classes.specs.World.{World}
-use Rattle.kb_semantics.specs.Config.{info_of, code_of, instruction_at}
+use Rattle.kb_semantics.specs.Config.{info_of, instruction_at}
 use Rattle.kb_resolution.specs.LeftOut.{is_left_out}
 use Rattle.kb_picture.specs.declared.picture.Picture.{Picture}
 use Rattle.kb_picture.specs.WellTyped.{IsWellTyped, IsReceiverSeen}
-use Rattle.kb_frames.specs.declared.frame.SymFrame.{SymFrame}
 use Rattle.kb_frames.specs.declared.state.Stage.{Stage}
 use Rattle.kb_frames.specs.declared.state.Stage.TheVariants.{Begins, Runs}
 use Rattle.kb_frames.specs.State.{State}
 use Rattle.kb_frames.specs.States.{IsState}
-
--- nothing was called: the current frame is the method's, and there are no callers
-abbrev pub IsAlone : MethodId → Stage → Type 0
-IsAlone method (Begins read) = Unit {0}
-IsAlone method (Runs frame callers) = (frame.method ≡ method) × (callers ≡ [])
-
-abbrev pub has_none : List Handler → Bool
-has_none [] = true
-has_none (handler ∷ others) = false
-
-abbrev pub HasNoHandlers : World → MethodId → Type 0
-HasNoHandlers world method = option_map_or (λ (code : MethodCode). code.handlers) (code_of world method) [] ≡ []
 
 -- none of its parameters is of a type that is left out: they are ints, booleans and references
 abbrev pub HasNoneLeftOut : World → MethodId → Type 0

@@ -8,7 +8,6 @@
 mod advanced;
 mod answers;
 mod asked;
-mod built;
 mod calls;
 mod choosing;
 mod condition;
@@ -29,7 +28,6 @@ mod ways;
 pub use advanced::{Advanced, only_way_on};
 pub use answers::{answer, passed_by};
 pub use asked::{ask, is_against};
-pub use built::is_built_instruction;
 pub use calls::{enters, return_value, returns};
 pub use choosing::offer;
 pub use condition::{

@@ -1,5 +1,5 @@
 -- How a job is answered.
-use Rattle.std.proofs.Common.{◌≡◌, List, [], ◌∷◌, ℕ, suc, true, false, Some, slice_get, Err, refl, sym, ◌∙◌, ap, subst, inl, inr, arith}
+use Rattle.std.proofs.Common.{◌≡◌, List, [], ◌∷◌, ℕ, suc, Some, slice_get, Err, refl, sym, ◌∙◌, ap, subst, inl, arith}
 use Rattle.std.specs.List.{AllByRecursion}
 use Rattle.kb_class.specs.declared.ids.MethodId.{MethodId}
 use Rattle.kb_drive.specs.Compared.{ComparesAsRuns}
@@ -30,28 +30,25 @@ use Rattle.kb_test_laws.specs.Laws.{RunsHaveNames}
 use Rattle.kb_test_laws.specs.Texts.{EndHasTexts, NamesHaveTexts}
 use Rattle.kb_words.specs.Orders.{AreBounds, IsJob}
 use Rattle.kb_words.specs.declared.orders.Job.{Job}
-use Rattle.kb_drive.specs.HeapMethods.{is_heap_method}
 use Rattle.kb_lazy.specs.Laws.{AreInRange}
 use Rattle.kb_world.specs.Reach.{IsAccepted, Refuses}
-use Rattle.kb_refusals.specs.declared.refusal.Refusal.TheVariants.{Unbuilt}
 use Rattle.kiasan.specs.declared.refusals.Stop.{Stop}
 use Rattle.kiasan.specs.declared.refusals.Stop.TheVariants.{Refused, ReadFault, NoMemory}
 use Rattle.kb_refusals.specs.declared.status.Status.{Status}
 use Rattle.kiasan.specs.Answers.{ends, Carries, IsTestsTextOf, RepliesJob, TextOf}
-use Rattle.kiasan.specs.Exploring.{AreListed, HasHead, IsBuiltReport, IsReportOf, status_of}
-use Rattle.kiasan.specs.Reach.{TargetRefuses}
+use Rattle.kiasan.specs.Exploring.{AreListed, HasHead, IsAcceptedReport, IsReportOf, status_of}
+use Rattle.kiasan.specs.Reach.{ReachRefuses}
 use Rattle.kiasan.specs.Refusals.{Gives, link_refusal}
 use Rattle.kiasan.specs.Tests.{EndsAsStated, RunsAsStated}
-use Rattle.kiasan.specs.Unbuilt.{IsBuiltFor}
 
 -- what the world says of a target that it does not reach
 pub reach_stops : {A : Type 0} (world : World) (target : Target) (found : LinkRefusal) (Passes : A → Type 0) → Refuses world target found →
-    Gives {A = A} ⊥ (TargetRefuses world target) Passes (Err (link_refusal found))
-reach_stops world target (links.NoMethod of) Passes is = inl (links.NoMethod of, is, refl)
-reach_stops world target (links.NoField of at) Passes is = inl (links.NoField of at, is, refl)
-reach_stops world target (links.Missing name) Passes is = inl (links.Missing name, is, refl)
-reach_stops world target (links.Outside of at what) Passes is = inl (links.Outside of at what, is, refl)
-reach_stops world target (links.Initialiser name) Passes is = inl (links.Initialiser name, is, refl)
+    Gives {A = A} ⊥ (ReachRefuses world target) Passes (Err (link_refusal found))
+reach_stops world target (links.NoMethod of) Passes is = (links.NoMethod of, is, refl)
+reach_stops world target (links.NoField of at) Passes is = (links.NoField of at, is, refl)
+reach_stops world target (links.Missing name) Passes is = (links.Missing name, is, refl)
+reach_stops world target (links.Outside of at what) Passes is = (links.Outside of at what, is, refl)
+reach_stops world target (links.Initialiser name) Passes is = (links.Initialiser name, is, refl)
 reach_stops world target links.NoMemory Passes is = tt
 reach_stops world target links.TooMany Passes is = absurd is
 reach_stops world target (links.BadName file entry) Passes is = absurd is
@@ -63,35 +60,27 @@ reach_stops world target (links.BadSuper name) Passes is = absurd is
 reach_stops world target (links.SplitPackage name method) Passes is = absurd is
 
 pub job_stops : (IsTextOf : TextOf) (world : World) (job : Job) (stop : Stop) →
-    Gives {A = Report} ⊥ (TargetRefuses world job.target) (IsBuiltReport world job) (Err stop) → Carries ⊥ (RepliesJob IsTextOf world job) (Err stop)
+    Gives {A = Report} ⊥ (ReachRefuses world job.target) (IsAcceptedReport world job) (Err stop) → Carries ⊥ (RepliesJob IsTextOf world job) (Err stop)
 unfolding RepliesJob
 job_stops IsTextOf world job (Refused refusal) given = inl given
 job_stops IsTextOf world job ReadFault given = given
 job_stops IsTextOf world job NoMemory given = tt
 
-pub job_ends : (IsTextOf : TextOf) (world : World) (job : Job) (report : Report) (status : Status) (text : List ℕ) (built : IsBuiltReport world job report) →
-    status ≡ status_of report.leaves → IsTextOf world built.reported.id report text → RepliesJob IsTextOf world job (ends status text)
+pub job_ends : (IsTextOf : TextOf) (world : World) (job : Job) (report : Report) (status : Status) (text : List ℕ) (given : IsAcceptedReport world job report) →
+    status ≡ status_of report.leaves → IsTextOf world given.reported.id report text → RepliesJob IsTextOf world job (ends status text)
 unfolding RepliesJob
-job_ends IsTextOf world job report status text built is told = (
-  built.reported.id,
-  record { found = built.reported.found; accepted = built.accepted; built = built.built },
-  record { report = report; reported = built.reported; ranges = built.ranges; status_is = is; text_is = told },
+job_ends IsTextOf world job report status text given is told = (
+  given.reported.id,
+  record { found = given.reported.found; accepted = given.accepted },
+  record { report = report; reported = given.reported; ranges = given.ranges; status_is = is; text_is = told },
 )
 
--- a method whose exploration is not built
-pub unbuilt_target : (world : World) (target : Target) (id : MethodId) → IsTargetOf world target id → IsAccepted world id → is_heap_method world id ≡ false →
-    TargetRefuses world target Unbuilt
-unbuilt_target world target id found accepted not =
-    inr (refl, record { id = id; found = found; accepted = accepted; none = λ built. let both : true ≡ false = sym built ∙ not in cc })
-
 -- a report with the head of the job and the paths of its method, whose numbers are in their ranges
-pub built_report : (world : World) (job : Job) (report : Report) (id : MethodId) (leaves : List Path) → HasHead job report → report.leaves ≡ leaves →
-    IsTargetOf world job.target id → IsAccepted world id → IsBuiltFor world id → AreListed world id job.bounds job.paths job.budget leaves → ReportFits report →
-    IsBuiltReport world job report
-built_report world job report id leaves head are found accepted built listed ranges = record {
+pub accepted_report : (world : World) (job : Job) (report : Report) (id : MethodId) (leaves : List Path) → HasHead job report → report.leaves ≡ leaves →
+    IsTargetOf world job.target id → IsAccepted world id → AreListed world id job.bounds job.paths job.budget leaves → ReportFits report → IsAcceptedReport world job report
+accepted_report world job report id leaves head are found accepted listed ranges = record {
   reported = record { head = head; id = id; found = found; listed = rw (head.bounds, head.paths, head.budget, are) listed };
   accepted = accepted;
-  built = built;
   ranges = ranges;
 }
 
@@ -122,9 +111,9 @@ all_of P [] each = tt
 all_of P (x ∷ xs) each = (each 0 x refl, all_of P xs (λ i y at. each (suc i) y at))
 
 -- the paths of a report are well-formed for its method
-pub paths_sound : (world : World) (job : Job) (report : Report) → IsBuiltReport world job report → AllByRecursion (IsSound world) report.leaves
-paths_sound world job report built =
-    all_of (IsSound world) report.leaves (λ i path at. record { method = built.reported.id; formed = built.reported.listed.covers.formed.each i path at })
+pub paths_sound : (world : World) (job : Job) (report : Report) → IsAcceptedReport world job report → AllByRecursion (IsSound world) report.leaves
+paths_sound world job report given =
+    all_of (IsSound world) report.leaves (λ i path at. record { method = given.reported.id; formed = given.reported.listed.covers.formed.each i path at })
 
 -- ---- the tests of a report end as they state
 
@@ -136,19 +125,19 @@ test_ends world report id covers = λ i path at ended leaf.
     covers.endings i path at ended ended.input leaf carried.0 carried.1
 
 -- the machine may run each, and each ends as it states
-pub report_runs : (world : World) (job : Job) (report : Report) (built : IsBuiltReport world job report) → AllByRecursion (RunsAsStated world built.reported.id) (tests_of world report)
-report_runs world job report built =
-    let id = built.reported.id in
-    let covers = built.reported.listed.covers in
-    let found : IsTargetOf world report.target id = subst (λ (target : Target). IsTargetOf world target id) (sym built.reported.head.target) built.reported.found in
+pub report_runs : (world : World) (job : Job) (report : Report) (given : IsAcceptedReport world job report) → AllByRecursion (RunsAsStated world given.reported.id) (tests_of world report)
+report_runs world job report given =
+    let id = given.reported.id in
+    let covers = given.reported.listed.covers in
+    let found : IsTargetOf world report.target id = subst (λ (target : Target). IsTargetOf world target id) (sym given.reported.head.target) given.reported.found in
     tests_all (RunsAsStated world id) world report report.leaves
     (λ i path at ended leaf.
     let carried = covers.carried i path at ended.input (ap input_carried leaf) in
-    (record { fit = record { found = found; correct = carried.0 }; accepted = built.accepted }, test_ends world report id covers i path at ended leaf))
+    (record { fit = record { found = found; correct = carried.0 }; accepted = given.accepted }, test_ends world report id covers i path at ended leaf))
 
-pub tests_written : (world : World) (job : Job) (report : Report) (text : List ℕ) (built : IsBuiltReport world job report) →
-    SpellsTests (literals_in world) (tests_of world report) text → IsTestsTextOf world built.reported.id report text
-tests_written world job report text built spelled = record { spelled = spelled; run_as_stated = report_runs world job report built }
+pub tests_written : (world : World) (job : Job) (report : Report) (text : List ℕ) (given : IsAcceptedReport world job report) →
+    SpellsTests (literals_in world) (tests_of world report) text → IsTestsTextOf world given.reported.id report text
+tests_written world job report text given spelled = record { spelled = spelled; run_as_stated = report_runs world job report given }
 
 -- ---- what is written of a job
 
@@ -176,9 +165,9 @@ states_texts runs world linked names id accepted bounds path states carries = λ
     subst EndHasTexts (states ended ended.input leaf carried.0 carried.1) (runs (setting_of world bounds) id ended.input linked names accepted carried.0)
 
 -- each path of a report carries an instance of its own, and states of it what has texts
-pub paths_carry : RunsHaveNames → (world : World) → IsLinked world → NamesHaveTexts world → (job : Job) (report : Report) (built : IsBuiltReport world job report) →
-    EachPath (IsCarried world built.reported.id) report.leaves
-paths_carry runs world linked names job report built = λ i path at.
-    let covers = built.reported.listed.covers in
+pub paths_carry : RunsHaveNames → (world : World) → IsLinked world → NamesHaveTexts world → (job : Job) (report : Report) (given : IsAcceptedReport world job report) →
+    EachPath (IsCarried world given.reported.id) report.leaves
+paths_carry runs world linked names job report given = λ i path at.
+    let covers = given.reported.listed.covers in
     let carries = covers.carried i path at in
-    (carries, covers.formed.each i path at, states_texts runs world linked names built.reported.id built.accepted report.bounds path (covers.endings i path at) carries)
+    (carries, covers.formed.each i path at, states_texts runs world linked names given.reported.id given.accepted report.bounds path (covers.endings i path at) carries)

@@ -45,12 +45,11 @@ use Rattle.kb_words.specs.declared.orders.Order.{Order}
 use Rattle.kb_words.specs.declared.orders.Order.TheVariants.{Explore, Tests, Diagrams, Replay, Assemble, Sample}
 use Rattle.kiasan.specs.Answers.{Reply, refuses, ends, ContentsRefuse, HasContents, IsContentsBy, Last, RefusesBy, Replies, RepliesTo, RepliesOn, RepliesIn, RepliesJob, RepliesReplay, WordsRefuse, IsRead, AreRead, IsContents, RefusesClasses, ClassRefuses, FileRefuses, WorldRefuses, TextRefuses, TextOf, AreTestsOf, EndsReplay, EndsJob, AreTold, IsReplay, IsSample, IsSameReply, class_limit, text_limit}
 use Rattle.kiasan.specs.Orders.{OrdersBuilt, blocks_of, files_of, texts_of, classes_of}
-use Rattle.kiasan.specs.Reach.{TargetRefuses}
+use Rattle.kiasan.specs.Reach.{IsAcceptedTarget, ReachRefuses}
 use Rattle.kiasan.specs.CodeFaults.{MethodsRefuse, methods_fault}
 use Rattle.kiasan.specs.Refusals.{class_refusal, code_refusal, link_refusal, word_refusal}
 use Rattle.kiasan.specs.Samples.{sample_job}
 use Rattle.kiasan.specs.Tests.{RefusesTests, replay_status, test_refusal}
-use Rattle.kiasan.specs.Unbuilt.{IsBuiltFor, IsBuiltTarget}
 use Rattle.kiasan.proofs.ClassLaws.{no_faults}
 use Rattle.kiasan.proofs.OneAssembly.{assembly_one}
 use Rattle.kiasan.proofs.OneListing.{listings_one}
@@ -215,26 +214,21 @@ world_apart given r world (found, why, e) linked = refused_or_linked given world
 ids_one : (world : World) (target : Target) → IsLinked world → (a b : MethodId) → IsTargetOf world target a → IsTargetOf world target b → a ≡ b
 ids_one world target given a b p q = one_declared world given.names given.loaded.methods target a b p.declared q.declared
 
-target_refusal : (world : World) (target : Target) → IsLinked world → (r s : Refusal) → TargetRefuses world target r → TargetRefuses world target s → r ≡ s
-target_refusal world target given r s (inl (f, p, e)) (inl (g, q, h)) =
+reach_refusal : (world : World) (target : Target) → IsLinked world → (r s : Refusal) → ReachRefuses world target r → ReachRefuses world target s → r ≡ s
+reach_refusal world target given r s (f, p, e) (g, q, h) =
     let faults : f ≡ g = one_reach_refusal world given target f g p q (not_memory f r e) (not_memory g s h) in
     let stops : refused_by r ≡ refused_by s = sym e ∙ ap link_refusal faults ∙ h in
     cc
-target_refusal world target given r s (inr a) (inr b) = a.0 ∙ sym b.0
-target_refusal world target given r s (inl (f, p, e)) (inr b) = absurd (refused_or_accepted world given target f b.1.id p (not_memory f r e) b.1.found b.1.accepted)
-target_refusal world target given r s (inr a) (inl (g, q, h)) = absurd (refused_or_accepted world given target g a.1.id q (not_memory g s h) a.1.found a.1.accepted)
 
-target_apart : (world : World) (target : Target) → IsLinked world → (r : Refusal) (id : MethodId) → TargetRefuses world target r → IsBuiltTarget world target id → ⊥
-target_apart world target given r id (inl (f, p, e)) built = refused_or_accepted world given target f id p (not_memory f r e) built.found built.accepted
-target_apart world target given r id (inr a) built =
-    a.1.none (subst (IsBuiltFor world) (ids_one world target given id a.1.id built.found a.1.found) built.built)
+reach_apart : (world : World) (target : Target) → IsLinked world → (r : Refusal) (id : MethodId) → ReachRefuses world target r → IsAcceptedTarget world target id → ⊥
+reach_apart world target given r id (f, p, e) passes = refused_or_accepted world given target f id p (not_memory f r e) passes.found passes.accepted
 
 job_one : (Same : Status → List ℕ → Status → List ℕ → Type 0) (IsTextOf : TextOf) (world : World) (job : Job) → IsLinked world →
     ((s u : Status) (t v : List ℕ) → Same s t u v) → HasOne Same (RepliesJob IsTextOf world job)
 unfolding RepliesJob
 job_one Same IsTextOf world job given any =
-    stage_one Same (TargetRefuses world job.target) (IsBuiltTarget world job.target) (λ id. Last (EndsJob IsTextOf world job))
-    (target_refusal world job.target given) (target_apart world job.target given)
+    stage_one Same (ReachRefuses world job.target) (IsAcceptedTarget world job.target) (λ id. Last (EndsJob IsTextOf world job))
+    (reach_refusal world job.target given) (reach_apart world job.target given)
     (λ a b p q. ids_one world job.target given a b p.found q.found) (λ id is. last)
   where
     last : HasOne Same (Last (EndsJob IsTextOf world job))

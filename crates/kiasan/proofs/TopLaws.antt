@@ -74,7 +74,7 @@ report_answers leaves = go (is_partial leaves)
 
 job_answers : (IsTextOf : TextOf) (world : World) (job : Job) (status : Status) (text : List ℕ) → RepliesJob IsTextOf world job (ends status text) → IsAnswer status
 unfolding RepliesJob
-job_answers IsTextOf world job status text (id, built, end) = rw end.status_is (report_answers end.report.leaves)
+job_answers IsTextOf world job status text (id, passed, end) = rw end.status_is (report_answers end.report.leaves)
 
 tests_answer : (bytes : List ℕ) (world : World) (status : Status) (text : List ℕ) → RepliesReplay bytes world (ends status text) → IsAnswer status
 unfolding RepliesReplay
@@ -131,7 +131,7 @@ report_status leaves = go (is_partial leaves)
 
 job_status : (IsTextOf : TextOf) (world : World) (job : Job) (status : Status) (text : List ℕ) → RepliesJob IsTextOf world job (ends status text) → IsOfReport status
 unfolding RepliesJob
-job_status IsTextOf world job status text (id, built, end) = rw end.status_is (report_status end.report.leaves)
+job_status IsTextOf world job status text (id, passed, end) = rw end.status_is (report_status end.report.leaves)
 
 verdicts_status : (verdicts : List Replayed) → IsOfVerdicts (replay_status verdicts)
 verdicts_status verdicts = go (nat_eq (count_differs verdicts) 0)

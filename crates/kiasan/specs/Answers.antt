@@ -48,11 +48,10 @@ use Rattle.kb_report_text.specs.Report.{report_text}
 use Rattle.kb_report_laws.specs.OneText.{IsReport}
 use Rattle.kb_report_tests.specs.Tests.{literals_in, tests_of}
 use Rattle.kb_sample.specs.Sample.{sample_text}
-use Rattle.kiasan.specs.Reach.{TargetRefuses}
+use Rattle.kiasan.specs.Reach.{IsAcceptedTarget, ReachRefuses}
 use Rattle.kiasan.specs.Samples.{IsSampleMade, IsSampleLine, sample_job}
 use Rattle.kiasan.specs.Exploring.{IsReportOf, status_of}
 use Rattle.kiasan.specs.Tests.{RefusesTests, RunsAsStated, replay_status}
-use Rattle.kiasan.specs.Unbuilt.{IsBuiltTarget}
 use Rattle.kiasan.specs.Verdicts.{replay_text}
 
 -- ---- replies and stages
@@ -132,10 +131,10 @@ pub record EndsReplay (world : World) (tests : List Test) (status : Status) (tex
   pub status_is : status ≡ replay_status verdicts
   pub text_is : text ≡ replay_text (literals_in world) tests verdicts
 
--- a job, behind its classes' world: reach, and the exploration; the exploration of what passes is built
+-- a job, behind its classes' world: reach, and the exploration
 unfoldable pub RepliesJob : TextOf → World → Job → Reply → Type 0
 RepliesJob IsTextOf world job =
-    Stage (TargetRefuses world job.target) (IsBuiltTarget world job.target) (λ id.
+    Stage (ReachRefuses world job.target) (IsAcceptedTarget world job.target) (λ id.
     Last (EndsJob IsTextOf world job))
 
 -- ---- texts

@@ -17,13 +17,12 @@ use Rattle.kb_words.specs.declared.orders.Job.{Job}
 use Rattle.kb_world.specs.Reach.{IsAccepted}
 use Rattle.kb_refusals.specs.declared.status.Status.{Status}
 use Rattle.kb_refusals.specs.declared.status.Status.TheVariants.{Complete, Partial}
-use Rattle.kiasan.specs.Unbuilt.{IsBuiltFor}
 
 -- ---- reports
 
 -- What the list of an exploration within these bounds, up to so many paths, with a solver of that budget says of the method: its paths
--- cover each type-correct input, their conditions are comparisons that the runs make, and each slot that is seen is read, and was
--- found before that.
+-- cover each type-correct input; and of every path, open and undecided ones too, the conditions are comparisons that the runs make, and
+-- each slot that is seen is read, and was found before that.
 pub record AreListed (world : World) (id : MethodId) (bounds : Bounds) (paths budget : ℕ) (leaves : List Path) : Type 0 where
   pub covers : Covers world id bounds paths budget leaves
   pub compared : EachPath (ComparesAsRuns world id bounds) leaves
@@ -46,11 +45,10 @@ pub record IsReportOf (world : World) (job : Job) (report : Report) : Type 0 whe
   pub found : IsTargetOf world job.target id
   pub listed : AreListed world id report.bounds report.paths report.budget report.leaves
 
--- a report of a method whose exploration is built; its numbers are in the ranges of their types
-pub record IsBuiltReport (world : World) (job : Job) (report : Report) : Type 0 where
+-- a report of a method that reach accepts; its numbers are in the ranges of their types
+pub record IsAcceptedReport (world : World) (job : Job) (report : Report) : Type 0 where
   pub reported : IsReportOf world job report
   pub accepted : IsAccepted world reported.id
-  pub built : IsBuiltFor world reported.id
   pub ranges : ReportFits report
 
 -- the path says nothing of the runs of its instances

@@ -6,5 +6,4 @@ pub mod Reach
 pub mod Refusals
 pub mod Samples
 pub mod Tests
-pub mod Unbuilt
 pub mod Verdicts

@@ -1,8 +1,8 @@
 //! Kiasan tells what a Java method does on every input that its types allow, path by path.
 //!
-//! `specs/` has the definitions: what the program answers, stage by stage (`Answers`); which orders and methods are built
-//! (`Orders`, `Unbuilt`); what a report says of a method (`Exploring`); what is explored and told of a sample (`Samples`); and what
-//! refusals come to (`Refusals`).
+//! `specs/` has the definitions: what the program answers, stage by stage (`Answers`); which orders are built (`Orders`); which
+//! methods are explored (`Reach`); what a report says of one (`Exploring`); what is explored and told of a sample (`Samples`); and
+//! what refusals come to (`Refusals`).
 #![tactic(auto)]
 
 mod answer;
@@ -16,7 +16,6 @@ mod replay;
 mod reports;
 mod sample;
 mod top;
-mod unbuilt;
 mod verdicts;
 
 pub use kb_refusals::Status;

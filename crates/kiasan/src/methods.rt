@@ -13,14 +13,14 @@ ghost use Rattle.kb_test_lines.specs.Lines.{IsRunBounds};
 ghost use Rattle.kb_test.specs.Tests.{SpellsTests};
 ghost use Rattle.kb_test_laws.specs.Texts.{NamesHaveTexts};
 ghost use Rattle.kiasan.specs.Answers.{Carries, IsDiagramsText, IsOwnText, IsReportText, IsTestsTextOf, RepliesJob};
-ghost use Rattle.kiasan.specs.Exploring.{IsBuiltReport, is_unsettled, status_of};
+ghost use Rattle.kiasan.specs.Exploring.{IsAcceptedReport, is_unsettled, status_of};
 ghost use Rattle.kiasan.specs.Orders.{IsBuiltJob};
-ghost use Rattle.kiasan.specs.Reach.{TargetRefuses};
+ghost use Rattle.kiasan.specs.Reach.{ReachRefuses};
 ghost use Rattle.kiasan.specs.Refusals.{Gives};
 
 use crate::NoMemory;
 use crate::refusals::{Answer, Stop};
-use crate::unbuilt::built_report;
+use crate::reports::report_of;
 use kb_diagram::diagrams_text;
 use kb_picture::{Leaf, Path};
 use kb_refusals::Status;
@@ -112,10 +112,11 @@ fn diagrams_answer(alloc: Global, world: &World, leaves: &[Path]) -> Result<Answ
 #[tactic(auto, using(crate::proofs::JobLaws::reach_stops))]
 pub fn explore_job(alloc: Global, world: &World, job: &Job) -> Result<Held<Report>, Stop>
     requires { IsBuiltJob job.now }
-    ensures { Gives ⊥ (TargetRefuses world.now job.now.target) (IsBuiltReport world.now job.now) result }
+    ensures { Gives ⊥ (ReachRefuses world.now job.now.target) (IsAcceptedReport world.now job.now) result }
 {
     let id = world.reach(alloc, &job.target)?;
-    built_report(alloc, world, job, id)
+    let report = report_of(alloc, world, job, id)?;
+    Ok(report)
 }
 
 /// How the program ends where these paths were told.

@@ -3,9 +3,8 @@
 ghost use Rattle.std.specs.Prelude.{◌≡◌, IfOk};
 ghost use Rattle.kb_link.specs.Targets.{IsTargetOf};
 ghost use Rattle.kb_world.specs.Reach.{IsAccepted};
-ghost use Rattle.kiasan.specs.Exploring.{AreListed, HasHead, IsBuiltReport};
+ghost use Rattle.kiasan.specs.Exploring.{AreListed, HasHead, IsAcceptedReport};
 ghost use Rattle.kiasan.specs.Orders.{IsBuiltJob};
-ghost use Rattle.kiasan.specs.Unbuilt.{IsBuiltFor};
 
 use crate::NoMemory;
 use kb_class::MethodId;
@@ -19,8 +18,8 @@ use kb_words::Job;
 use kb_world::World;
 use std::alloc::Global;
 
-/// The report of the job's method, whose exploration is built. Refused only where memory runs out.
-#[tactic(auto, using(crate::proofs::JobLaws::built_report))]
+/// The report of the job's method, which reach accepts. Refused only where memory runs out.
+#[tactic(auto, using(crate::proofs::JobLaws::accepted_report))]
 pub fn report_of(
     alloc: Global,
     world: &World,
@@ -29,9 +28,8 @@ pub fn report_of(
 ) -> Result<Held<Report>, NoMemory>
     requires found { IsTargetOf world.now job.now.target id }
     requires accepted { IsAccepted world.now id }
-    requires built { IsBuiltFor world.now id }
     requires job { IsBuiltJob job.now }
-    ensures { IfOk result (IsBuiltReport world.now job.now) }
+    ensures { IfOk result (IsAcceptedReport world.now job.now) }
 {
     let leaves = explore(alloc, world, job, id)?;
     let report = report_with(alloc, job, leaves)?;
@@ -61,7 +59,6 @@ fn report_with(alloc: Global, job: &Job, leaves: Row<Path>) -> Result<Held<Repor
 #[tactic(auto, using(crate::proofs::JobLaws::is_start, crate::proofs::JobLaws::starts_lazily, crate::proofs::JobLaws::in_range))]
 fn explore(alloc: Global, world: &World, job: &Job, id: MethodId) -> Result<Row<Path>, NoMemory>
     requires accepted { IsAccepted world.now id }
-    requires built { IsBuiltFor world.now id }
     requires job { IsBuiltJob job.now }
     ensures { IfOk result (AreListed world.now id job.now.bounds job.now.paths job.now.budget) }
 {

@@ -8,7 +8,7 @@ ghost use Rattle.kb_report_tests.specs.Tests.{tests_of};
 ghost use Rattle.kb_sample.specs.Sample.{sample_text};
 ghost use Rattle.kb_test_laws.specs.Texts.{NamesHaveTexts};
 ghost use Rattle.kiasan.specs.Answers.{Carries, IsSampleText, LineRefuses, RefusesNothing, RepliesJob};
-ghost use Rattle.kiasan.specs.Exploring.{IsBuiltReport, status_of};
+ghost use Rattle.kiasan.specs.Exploring.{IsAcceptedReport, status_of};
 ghost use Rattle.kiasan.specs.Refusals.{Gives};
 ghost use Rattle.kiasan.specs.Samples.{ArePassed, IsSampleMade, IsSampleLine, blocks_text, passed_text, sample_job, sample_line, sample_target};
 ghost use Rattle.kiasan.specs.Tests.{RunsAsStated, count_passes};
@@ -113,7 +113,7 @@ fn sample_answer<R: AllocGlobal + Threads + Sync, G: Gate + Sync>(
 ) -> Result<Answer, Stop>
     requires linked { IsLinked world.now }
     requires names { NamesHaveTexts world.now }
-    requires built { IsBuiltReport world.now sample_job report.now }
+    requires report { IsAcceptedReport world.now sample_job report.now }
     ensures { Gives ⊥ RefusesNothing (λ answer. (answer.status ≡ status_of report.now.leaves) × IsSampleLine blocks world.now report.now answer.text.items) result }
 {
     let alloc = rt.alloc();
@@ -131,7 +131,7 @@ fn sample_answer<R: AllocGlobal + Threads + Sync, G: Gate + Sync>(
 fn written_tests(alloc: Global, world: &World, report: &Report) -> Result<Row<Test>, Stop>
     requires linked { IsLinked world.now }
     requires names { NamesHaveTexts world.now }
-    requires built { IsBuiltReport world.now sample_job report.now }
+    requires report { IsAcceptedReport world.now sample_job report.now }
     ensures { Gives ⊥ RefusesNothing (λ tests. tests ≡ tests_of world.now report.now) result }
 {
     runs_have_names();

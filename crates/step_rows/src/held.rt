@@ -1,4 +1,4 @@
-//! What a state over a heap holds, as lines.
+//! What a state holds, as lines.
 
 use crate::told::append_exact;
 use kb_class::MethodId;

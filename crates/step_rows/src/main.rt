@@ -1,7 +1,7 @@
 //! The symbolic steps on a table of rows: each row of the file `rows` has a method of class files and the alternatives that are
 //! taken where there are several. The program writes the row, and step by step which alternatives there are, which one is
-//! taken, what comes of it, the terms that it makes, and of a method over heaps what the state holds then; at the end what the
-//! state has met, in the lines of a report.
+//! taken, what comes of it, the terms that it makes, and what the state holds then; at the end what the state has met, in the lines
+//! of a report.
 //!
 //! The gate runs it over the files of `data/` and compares what it writes with `stdout`, so that a row costs no proof. What is
 //! expected there is no output of this program: `examples/steps/make.py` writes it by a model of the steps.

@@ -3,7 +3,6 @@
 ghost use Rattle.std.specs.Prelude.{◌≡◌, true, IfOk, OnOk};
 ghost use Rattle.kb_class.specs.Naming.{Has};
 ghost use Rattle.kb_lazy.specs.Laws.{AreInRange};
-ghost use Rattle.kb_ways.specs.Built.{IsBuiltNext};
 ghost use Rattle.kb_ways.specs.Reached.{IsReached};
 ghost use Rattle.kb_steps.specs.Stepping.{IsStepping, StepsOn};
 ghost use Rattle.kb_steps.specs.Taking.{choices_at};
@@ -17,8 +16,7 @@ use kb_frames::{Outcome, SymState};
 use kb_heap::Bounds;
 use kb_load::reached;
 use kb_picture::Choice;
-use kb_stepint::is_int_method;
-use kb_steps::{advance, begin, choices, goes_on, is_built_next, take};
+use kb_steps::{advance, begin, choices, goes_on, take};
 use kb_table::{RowResult, RowStop, append};
 use kb_ways::Advanced;
 use kb_world::World;
@@ -129,9 +127,6 @@ fn follow(
 {
     let mut taken = 0;
     for _ in 0..MOST {
-        if !is_built_next(world, state) {
-            return append("meets what is not built\n", into);
-        }
         if !step(alloc, world, row, steps, &mut taken, state, into)? {
             return Ok(());
         }
@@ -150,7 +145,6 @@ fn step(
     into: &mut Vec<u8>,
 ) -> RowResult<bool>
     requires stepping { IsStepping world.now state.old }
-    requires built { IsBuiltNext world.now state.old }
     requires range { AreInRange row.now.bounds }
     ensures reached { OnOk result (IsReached world.now state.new) }
     ensures on { IfOk result (λ goes_on. goes_on ≡ true → IsStepping world.now state.new) }
@@ -171,7 +165,6 @@ fn step_by_list(
     into: &mut Vec<u8>,
 ) -> RowResult<bool>
     requires stepping { IsStepping world.now state.old }
-    requires built { IsBuiltNext world.now state.old }
     requires range { AreInRange row.now.bounds }
     ensures reached { OnOk result (IsReached world.now state.new) }
     ensures on { IfOk result (λ goes_on. goes_on ≡ true → IsStepping world.now state.new) }
@@ -191,7 +184,6 @@ fn choose(
     into: &mut Vec<u8>,
 ) -> RowResult<bool>
     requires stepping { IsStepping world.now state.old }
-    requires built { IsBuiltNext world.now state.old }
     requires range { AreInRange row.now.bounds }
     requires offered { choices.now ≡ choices_at world.now row.now.bounds state.old }
     ensures reached { OnOk result (IsReached world.now state.new) }
@@ -219,7 +211,6 @@ fn step_on(
     into: &mut Vec<u8>,
 ) -> RowResult<bool>
     requires stepping { IsStepping world.now state.old }
-    requires built { IsBuiltNext world.now state.old }
     requires range { AreInRange row.now.bounds }
     ensures reached { OnOk result (IsReached world.now state.new) }
     ensures on { IfOk result (λ goes_on. goes_on ≡ true → IsStepping world.now state.new) }
@@ -261,7 +252,6 @@ fn take_and_tell(
     into: &mut Vec<u8>,
 ) -> RowResult<bool>
     requires stepping { IsStepping world.now state.old }
-    requires built { IsBuiltNext world.now state.old }
     requires range { AreInRange bounds.now }
     requires offered { Has (choices_at world.now bounds.now state.old) choice.now }
     ensures reached { OnOk result (IsReached world.now state.new) }
@@ -273,8 +263,7 @@ fn take_and_tell(
     Ok(goes_on(&outcome))
 }
 
-/// Appends what came of a take: the outcome, the terms of the pool from that number on, and of a method over heaps what the
-/// state holds.
+/// Appends what came of a take: the outcome, the terms of the pool from that number on, and what the state holds.
 fn append_taken(
     alloc: Global,
     world: &World,
@@ -285,9 +274,6 @@ fn append_taken(
 ) -> RowResult<()> {
     append_outcome(alloc, outcome, into)?;
     append_nodes(alloc, state.pool(), before, into)?;
-    if is_int_method(world, state.method()) {
-        return Ok(());
-    }
     append_held(alloc, world, state, outcome, into)
 }
 

@@ -5,8 +5,8 @@ use Rattle.kb_class.specs.declared.ids.MethodId.{MethodId}
 use Rattle.kb_classes.specs.World.{methods_in}
 use Rattle.kb_frames.specs.State.{State, start_state}
 use Rattle.kb_picture.specs.declared.choice.Init.{Init}
-use Rattle.kb_drive.specs.Reached.{IsHeapReached}
-use Rattle.kb_drive.proofs.HeapMethodLaws.{heap_methods_begin}
+use Rattle.kb_steps.specs.Stepping.{IsStepping}
+use Rattle.kb_drive.proofs.AcceptedLaws.{accepted_begins}
 use Rattle.kb_drive.specs.declared.piece.Piece.{Piece}
 use Rattle.kb_drive.specs.Compared.{ComparesAsRuns}
 use Rattle.kb_picture.specs.Carried.{EachPath}
@@ -35,15 +35,15 @@ explore_piece-requires-clause-piece g c =
     c.whole-piece.ensures ∙ ap (λ (state : State). record { state = state; decisions = []; values = [] }) c.requires.start in
     subst (λ (piece : Piece). IsPiece c.args.world.now piece.state.method c.args.bounds.now piece) (sym same)
     (whole_is_piece c.args.world.now c.args.bounds.now c.args.start.init c.args.start.method
-    (subst (λ (init : Init). IsHeapReached c.args.world.now (start_state init c.args.start.method)) (sym c.requires.lazy)
-    (heap_methods_begin c.args.world.now c.args.start.method c.method_of.ensures.linked c.requires.heap)))
+    (subst (λ (init : Init). IsStepping c.args.world.now (start_state init c.args.start.method)) (sym c.requires.lazy)
+    (accepted_begins c.args.world.now c.args.start.method c.method_of.ensures.linked c.requires.accepted)))
 
 pub explore_piece-requires-clause-explorable : goal.explore_piece-requires-clause-explorable
 explore_piece-requires-clause-explorable g c =
     let same : c.whole-piece.result ≡ whole_piece c.args.start.init c.args.start.method =
     c.whole-piece.ensures ∙ ap (λ (state : State). record { state = state; decisions = []; values = [] }) c.requires.start in
     subst (λ (piece : Piece). IsExplorable c.args.world.now piece.state.method c.args.bounds.now) (sym same)
-    (record { linked = c.method_of.ensures.linked; accepted = c.requires.accepted; steps = c.requires.heap; range = c.requires.range })
+    (record { linked = c.method_of.ensures.linked; accepted = c.requires.accepted; range = c.requires.range })
 
 pub returns-clause-covers : goal.returns-clause-covers
 returns-clause-covers g c =

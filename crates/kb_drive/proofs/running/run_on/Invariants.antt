@@ -1,12 +1,12 @@
 use Rattle.kb_terms.specs.Terms.{Extends}
-use Rattle.kb_drive.specs.Reached.{IsHeapReached}
+use Rattle.kb_steps.specs.Stepping.{IsStepping}
 use Rattle.kb_drive.specs.Steps.{rank_of}
 use Rattle.kb_drive.proofs.TurnLaws.{RunsFrom}
 use Rattle.kb_drive.proofs.running.run_on.Given as goal
 
 abbrev pub invariant-loop-ran : goal.invariant-loop-ran
 invariant-loop-ran l = record {
-  reached : IsHeapReached l.world l.state;
+  reached : IsStepping l.world l.state;
   from : RunsFrom l.world l.bounds l.fn.state l.state;
   terms : Extends l.fn.state.nodes l.state.nodes;
 }

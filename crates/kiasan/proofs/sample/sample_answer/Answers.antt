@@ -25,9 +25,9 @@ returns-in_err-tests g c =
 
 pub replayed_tests-requires-clause-runs : goal.replayed_tests-requires-clause-runs
 replayed_tests-requires-clause-runs g c κs within = (
-  c.requires.built.reported.id,
-  subst (AllByRecursion (RunsAsStated c.args.world.now c.requires.built.reported.id)) (sym c.in_ok-tests.ensures)
-      (report_runs c.args.world.now sample_job c.args.report.now c.requires.built),
+  c.requires.report.reported.id,
+  subst (AllByRecursion (RunsAsStated c.args.world.now c.requires.report.reported.id)) (sym c.in_ok-tests.ensures)
+      (report_runs c.args.world.now sample_job c.args.report.now c.requires.report),
 )
 
 pub returns-in_err-ran : goal.returns-in_err-ran

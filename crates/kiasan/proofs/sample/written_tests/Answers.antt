@@ -9,15 +9,15 @@ use Rattle.kiasan.proofs.SampleLaws.{sample_built, spelled_as, written_read}
 use Rattle.kiasan.proofs.sample.written_tests.Goals as goal
 
 pub tests_text-requires-clause-target : goal.tests_text-requires-clause-target
-tests_text-requires-clause-target c = target_written sample_job c.args.report.now sample_built.numbers c.requires.built.reported.head
+tests_text-requires-clause-target c = target_written sample_job c.args.report.now sample_built.numbers c.requires.report.reported.head
 
 pub tests_text-requires-clause-bounds : goal.tests_text-requires-clause-bounds
-tests_text-requires-clause-bounds c = bounds_written sample_job c.args.report.now sample_built.numbers c.requires.built.reported.head
+tests_text-requires-clause-bounds c = bounds_written sample_job c.args.report.now sample_built.numbers c.requires.report.reported.head
 
 pub tests_text-requires-clause-carried : goal.tests_text-requires-clause-carried
 tests_text-requires-clause-carried c = (
-  c.requires.built.reported.id,
-  paths_carry c.runs_have_names.ensures c.args.world.now c.requires.linked c.requires.names sample_job c.args.report.now c.requires.built,
+  c.requires.report.reported.id,
+  paths_carry c.runs_have_names.ensures c.args.world.now c.requires.linked c.requires.names sample_job c.args.report.now c.requires.report,
 )
 
 pub returns-in_err-tests : goal.returns-in_err-tests

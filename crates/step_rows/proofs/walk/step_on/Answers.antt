@@ -5,7 +5,6 @@ use Rattle.kb_picture.specs.declared.choice.Choice.TheVariants.{Only}
 use Rattle.kb_heap.specs.declared.bounds.Bounds.{Bounds}
 use Rattle.kb_frames.specs.State.{State}
 use Rattle.kb_ways.specs.Advancing.{IsAdvanced}
-use Rattle.kb_ways.specs.Built.{IsBuiltNext}
 use Rattle.kb_ways.specs.declared.advanced.Advanced.{Advanced}
 use Rattle.kb_ways.specs.declared.advanced.Advanced.TheVariants.{Chooses}
 use Rattle.kb_steps.specs.Stepping.{AdvancesOn}
@@ -17,12 +16,6 @@ Advances world bounds old new advanced = IsAdvanced (choices_at world bounds old
 
 pub choose-requires-clause-stepping : goal.choose-requires-clause-stepping
 choose-requires-clause-stepping c = subst (AdvancesOn c.args.world.now c.advance.new.state) c.in-Ok-Chooses.field-0-is c.in-Ok-Chooses.ensures.on
-
-pub choose-requires-clause-built : goal.choose-requires-clause-built
-choose-requires-clause-built c =
-    let advanced : Advances c.args.world.now c.args.row.now.bounds c.args.state.now c.advance.new.state (Chooses c.in-Ok-Chooses.choices) =
-    subst (Advances c.args.world.now c.args.row.now.bounds c.args.state.now c.advance.new.state) c.in-Ok-Chooses.field-0-is c.in-Ok-Chooses.ensures.advanced in
-    subst (IsBuiltNext c.args.world.now) (sym advanced.0) c.requires.built
 
 pub choose-requires-clause-offered : goal.choose-requires-clause-offered
 choose-requires-clause-offered c =
