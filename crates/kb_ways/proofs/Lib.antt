@@ -28,6 +28,7 @@ pub mod TruthLaws
 pub mod TurnLaws
 pub mod ValueLaws
 pub mod KeptLaws
+pub mod KnownLaws
 pub mod OperandLaws
 pub mod ReferenceLaws
 pub mod ObjectLaws

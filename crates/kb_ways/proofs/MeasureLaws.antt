@@ -1,5 +1,5 @@
 -- An argument that is read leaves fewer choices before the same instruction, and each way on has carried out one more.
-use Rattle.std.proofs.Common.{◌≡◌, ℕ, zero, suc, ◌+◌, ◌-◌, ◌<◌, ◌≤◌, List, [], ◌∷◌, ◌++◌, length, length-append, slice_get, Option, Some, None, refl, sym, ap, subst, ◌∙◌, option_and_then, arith}
+use Rattle.std.proofs.Common.{◌≡◌, ℕ, zero, suc, ◌+◌, ◌-◌, ◌<◌, ◌≤◌, List, [], ◌∷◌, ◌++◌, length, length-append, map, slice_get, Option, Some, None, refl, sym, ap, subst, ◌∙◌, option_and_then, arith}
 use Rattle.std.specs.Option.{option_map_or}
 use Rattle.std.proofs.lemmas.Option.{slice_get_within}
 use Rattle.kb_class.specs.declared.ids.MethodId.{MethodId}
@@ -21,14 +21,19 @@ use Rattle.kb_frames.specs.declared.frame.SymFrame.{SymFrame}
 use Rattle.kb_frames.specs.declared.state.Stage.{Stage}
 use Rattle.kb_frames.specs.declared.state.Stage.TheVariants.{Begins, Runs}
 use Rattle.kb_frames.specs.declared.value.SymValue.{SymValue}
-use Rattle.kb_frames.specs.declared.value.SymValue.TheVariants.{Int, Obj}
+use Rattle.kb_frames.specs.declared.value.SymValue.TheVariants.{Int, Obj, Loc}
 use Rattle.kb_frames.specs.declared.value.Cell.{Cell}
 use Rattle.kb_frames.specs.declared.value.Cell.TheVariants.{Untouched, Read, Written}
 use Rattle.kb_frames.specs.State.{State}
 use Rattle.kb_frames.specs.FirstReads.{first_int, with_read}
 use Rattle.kb_frames.specs.Heaps.{find_cell}
 use Rattle.kb_frames.specs.Lent.{read_count, stack_of, transfers_of}
-use Rattle.kb_ways.specs.Measure.{questions_of, questions_of_op, unread_at, left_of, choices_left, unchosen, unknown, untouched, untouched_in}
+use Rattle.kb_ways.specs.Known.{known_stack, open_loc}
+use Rattle.kb_ways.specs.Measure.{choices_left, left_of, needed, open_argument, open_at, open_for, open_value, questions_of, questions_of_op, unchosen, unknown, unread_at, untouched, untouched_in}
+use Rattle.kb_ways.specs.Plans.{here}
+use Rattle.kb_semantics.specs.Instructions.{Callee, callee_at}
+use Rattle.kb_picture.specs.declared.picture.Picture.{Picture}
+use Rattle.kb_frames.specs.Bindings.{resolved}
 use Rattle.kb_frames.specs.Next.{argument_next, instruction_next, method_now, offset_now}
 use Rattle.kb_ways.specs.Simulation.{GetsOn}
 use Rattle.kb_ways.specs.Ways.{Take, There, OfClass, Way, Goes, Jumps, Enters, Leaves, Throws, ThrowsThere, Fails, carries_out, went}
@@ -58,34 +63,68 @@ few_untouched (Some (Written value)) = omega arith
 
 few_in : (state : State) (place : ℕ) (array : Option SymValue) → untouched_in state place array ≤ 1
 few_in state place (Some (Obj number)) = few_untouched (find_cell state.cells number place)
+few_in state place (Some (Loc number)) = omega arith
 few_in state place _ = omega arith
 
 -- an index and an element
 few_unknown : (state : State) (chosen : Option ℕ) → unchosen chosen + unknown state chosen ≤ 2
 few_unknown state None = omega arith
-few_unknown state (Some place) = (let one = few_in state place (slice_get (stack_of state.stage) 1) in omega (arith, one))
+few_unknown state (Some place) = (let one = few_in state place (slice_get (known_stack state) 1) in omega (arith, one))
 
 few_unchosen : (chosen : Option ℕ) → unchosen chosen ≤ 1
 few_unchosen None = omega arith
 few_unchosen (Some place) = omega arith
 
--- no instruction needs more than five choices
-pub few : (state : State) (instr : Instr) → questions_of state instr ≤ 5
-few state (instrs.IfInt cond target) = omega arith
-few state (instrs.IfPair cond target) = omega arith
-few state (instrs.Table low default targets) = omega arith
-few state (instrs.Lookup default keys) = omega arith
-few state (instrs.Int2 op) = few_of_op op
-few state (instrs.GetField entry) = omega arith
-few state (instrs.LoadElem elem) = (let two = few_unknown state state.chosen in omega (arith, two))
-few state (instrs.StoreElem elem) = (let one = few_unchosen state.chosen in omega (arith, one))
-few state (instrs.NewPrim code) = omega arith
-few state (instrs.NewRefs entry) = omega arith
-few state _ = omega arith
+-- ---- open locations
 
-pub few_next : (state : State) (found : Option Instr) → option_map_or (questions_of state) found 0 ≤ 5
-few_next state None = omega arith
-few_next state (Some instr) = few state instr
+few_opened : (it : Option ℕ) → option_map_or (λ (number : ℕ). 1) it 0 ≤ 1
+few_opened None = omega arith
+few_opened (Some number) = omega arith
+
+few_value : (it : Option SymValue) → open_value it ≤ 1
+few_value None = omega arith
+few_value (Some value) = few_opened (open_loc value)
+
+few_open : (state : State) (depth : ℕ) → open_at state depth ≤ 1
+few_open state depth = few_value (slice_get (known_stack state) depth)
+
+few_argument : (state : State) (arguments : ℕ) → open_argument state arguments ≤ 1
+few_argument state zero = omega arith
+few_argument state (suc others) = few_open state others
+
+few_for : (state : State) (callee : Option Callee) → open_for state callee ≤ 2
+few_for state None = omega arith
+few_for state (Some callee) =
+    let receiver = few_open state (length callee.kind.params) in
+    let argument = few_argument state (length callee.kind.params) in
+    omega (arith, receiver, argument)
+
+-- no instruction needs more than five choices
+pub few : (world : World) (state : State) (instr : Instr) → needed world state instr ≤ 5
+few world state (instrs.IfInt cond target) = omega arith
+few world state (instrs.IfPair cond target) = omega arith
+few world state (instrs.Table low default targets) = omega arith
+few world state (instrs.Lookup default keys) = omega arith
+few world state (instrs.Int2 op) = few_of_op op
+few world state (instrs.GetField entry) = (let one = few_open state 0 in omega (arith, one))
+few world state (instrs.PutField entry) = (let one = few_open state 1 in omega (arith, one))
+few world state (instrs.LoadElem elem) = (let one = few_open state 1 in let two = few_unknown state state.chosen in omega (arith, one, two))
+few world state (instrs.StoreElem elem) = (let array = few_open state 2 in let value = few_open state 0 in let one = few_unchosen state.chosen in omega (arith, array, value, one))
+few world state instrs.Length = (let one = few_open state 0 in omega (arith, one))
+few world state (instrs.Virtual entry) = (let two = few_for state (callee_at world (here world state) entry) in omega (arith, two))
+few world state (instrs.Interface entry) = (let two = few_for state (callee_at world (here world state) entry) in omega (arith, two))
+few world state (instrs.Special entry) = (let two = few_for state (callee_at world (here world state) entry) in omega (arith, two))
+few world state (instrs.Cast entry) = (let one = few_open state 0 in omega (arith, one))
+few world state (instrs.InstanceOf entry) = (let one = few_open state 0 in omega (arith, one))
+few world state instrs.Throw = (let one = few_open state 0 in omega (arith, one))
+few world state (instrs.IfSame want target) = (let left = few_open state 1 in let right = few_open state 0 in omega (arith, left, right))
+few world state (instrs.NewPrim code) = omega arith
+few world state (instrs.NewRefs entry) = omega arith
+few world state _ = omega arith
+
+pub few_next : (world : World) (state : State) (found : Option Instr) → option_map_or (needed world state) found 0 ≤ 5
+few_next world state None = omega arith
+few_next world state (Some instr) = few world state instr
 
 -- ---- arguments
 
@@ -110,7 +149,7 @@ module _ (world : World) (bounds : Bounds) (old : State) where
 
   -- what is left of a state of that method at that stage
   abbrev left_at : State → MethodId → Stage → ℕ
-  left_at state method stage = left_of (unread_at world method stage) (option_map_or (questions_of state) (instruction_next world method stage) 0)
+  left_at state method stage = left_of (unread_at world method stage) (option_map_or (needed world state) (instruction_next world method stage) 0)
 
   -- whatever the argument is, and whatever else is found with it
   pub argument_on : (new : State) (value : SymValue) (stage : Stage) (type : JType) → old.stage ≡ stage → argument_next world old.method old.stage ≡ Some type → new.method ≡ old.method
@@ -119,12 +158,12 @@ module _ (world : World) (bounds : Bounds) (old : State) where
       let later : Stage = Begins (read ++ value ∷ []) in
       let next : argument_next world old.method (Begins read) ≡ Some type = subst (λ (s : Stage). argument_next world old.method s ≡ Some type) is e in
       let one : unread_at world old.method (Begins read) ≡ suc (unread_at world old.method later) = fewer_unread world old.method read value type next in
-      let less = fewer (unread_at world old.method later) (option_map_or (questions_of new) (instruction_next world old.method later) 0)
-      (option_map_or (questions_of old) (instruction_next world old.method (Begins read)) 0) (few_next new (instruction_next world old.method later)) in
+      let less = fewer (unread_at world old.method later) (option_map_or (needed world new) (instruction_next world old.method later) 0)
+      (option_map_or (needed world old) (instruction_next world old.method (Begins read)) 0) (few_next world new (instruction_next world old.method later)) in
       let now : choices_left world new ≡ left_at new old.method later =
       ap (λ (m : MethodId). left_at new m new.stage) method ∙ ap (left_at new old.method) (staged ∙ ap (λ (s : Stage). with_read s value) is) in
-      let before : choices_left world old ≡ left_of (suc (unread_at world old.method later)) (option_map_or (questions_of old) (instruction_next world old.method (Begins read)) 0) =
-      ap (left_at old old.method) is ∙ ap (λ (n : ℕ). left_of n (option_map_or (questions_of old) (instruction_next world old.method (Begins read)) 0)) one in
+      let before : choices_left world old ≡ left_of (suc (unread_at world old.method later)) (option_map_or (needed world old) (instruction_next world old.method (Begins read)) 0) =
+      ap (left_at old old.method) is ∙ ap (λ (n : ℕ). left_of n (option_map_or (needed world old) (instruction_next world old.method (Begins read)) 0)) one in
       subst (λ (n : ℕ). n < choices_left world old) (sym now) (subst (λ (n : ℕ). left_at new old.method later < n) (sym before) less)
   argument_on new value (Runs frame callers) type is e method staged = absurd (none (subst (λ (s : Stage). argument_next world old.method s ≡ Some type) is e)) where
     none : None ≡ Some type → ⊥
@@ -135,22 +174,45 @@ module _ (world : World) (bounds : Bounds) (old : State) where
 
   -- ---- places
 
+  -- what is open of the same stack in the same picture is so still
+  open_still : (new : State) (depth : ℕ) → new.stage ≡ old.stage → new.picture ≡ old.picture → open_at new depth ≡ open_at old depth
+  open_still new depth stage picture =
+      ap (λ (s : Stage). open_value (slice_get (map (resolved new.picture.locs) (stack_of s)) depth)) stage
+      ∙ ap (λ (p : Picture). open_value (slice_get (map (resolved p.locs) (stack_of old.stage)) depth)) picture
+
   -- where a place is chosen, what the element holds may be open still
   pub place_on : (new : State) (elem : Elem) (place : ℕ) → unread_at world old.method old.stage ≡ 0 → instruction_next world old.method old.stage ≡ Some (instrs.LoadElem elem)
-      → old.chosen ≡ None → new.method ≡ old.method → new.stage ≡ old.stage → new.chosen ≡ Some place → choices_left world new < choices_left world old
-  place_on new elem place none next unchosen_yet method stage chosen =
-      let one : unknown new (Some place) ≤ 1 = few_in new place (slice_get (stack_of new.stage) 1) in
-      let sum : unchosen (Some place) + unknown new (Some place) ≡ unknown new (Some place) = omega arith in
-      let now : choices_left world new ≡ unknown new (Some place) =
+      → old.chosen ≡ None → new.method ≡ old.method → new.stage ≡ old.stage → new.picture ≡ old.picture → new.chosen ≡ Some place → choices_left world new < choices_left world old
+  place_on new elem place none next unchosen_yet method stage picture chosen =
+      let one : unknown new (Some place) ≤ 1 = few_in new place (slice_get (known_stack new) 1) in
+      let still : open_at new 1 ≡ open_at old 1 = open_still new 1 stage picture in
+      let now : choices_left world new ≡ open_at new 1 + (unchosen (Some place) + unknown new (Some place)) =
       ap (λ (m : MethodId). left_at new m new.stage) method ∙ ap (left_at new old.method) stage
-      ∙ ap (λ (n : ℕ). left_of n (option_map_or (questions_of new) (instruction_next world old.method old.stage) 0)) none
-      ∙ ap (λ (i : Option Instr). option_map_or (questions_of new) i 0) next
-      ∙ ap (λ (c : Option ℕ). unchosen c + unknown new c) chosen ∙ sum in
-      let before : choices_left world old ≡ 2 =
-      ap (λ (n : ℕ). left_of n (option_map_or (questions_of old) (instruction_next world old.method old.stage) 0)) none
-      ∙ ap (λ (i : Option Instr). option_map_or (questions_of old) i 0) next
-      ∙ ap (λ (c : Option ℕ). unchosen c + unknown old c) unchosen_yet in
-      omega (arith, one, now, before)
+      ∙ ap (λ (n : ℕ). left_of n (option_map_or (needed world new) (instruction_next world old.method old.stage) 0)) none
+      ∙ ap (λ (i : Option Instr). option_map_or (needed world new) i 0) next
+      ∙ ap (λ (c : Option ℕ). open_at new 1 + (unchosen c + unknown new c)) chosen in
+      let before : choices_left world old ≡ open_at old 1 + 2 =
+      ap (λ (n : ℕ). left_of n (option_map_or (needed world old) (instruction_next world old.method old.stage) 0)) none
+      ∙ ap (λ (i : Option Instr). option_map_or (needed world old) i 0) next
+      ∙ ap (λ (c : Option ℕ). open_at old 1 + (unchosen c + unknown old c)) unchosen_yet in
+      omega (arith, one, still, now, before)
+
+  -- and where one is chosen for a store, the value that is stored may be
+  pub store_on : (new : State) (elem : Elem) (place : ℕ) → unread_at world old.method old.stage ≡ 0 → instruction_next world old.method old.stage ≡ Some (instrs.StoreElem elem)
+      → old.chosen ≡ None → new.method ≡ old.method → new.stage ≡ old.stage → new.picture ≡ old.picture → new.chosen ≡ Some place → choices_left world new < choices_left world old
+  store_on new elem place none next unchosen_yet method stage picture chosen =
+      let array : open_at new 2 ≡ open_at old 2 = open_still new 2 stage picture in
+      let value : open_at new 0 ≡ open_at old 0 = open_still new 0 stage picture in
+      let now : choices_left world new ≡ open_at new 2 + open_at new 0 + unchosen (Some place) =
+      ap (λ (m : MethodId). left_at new m new.stage) method ∙ ap (left_at new old.method) stage
+      ∙ ap (λ (n : ℕ). left_of n (option_map_or (needed world new) (instruction_next world old.method old.stage) 0)) none
+      ∙ ap (λ (i : Option Instr). option_map_or (needed world new) i 0) next
+      ∙ ap (λ (c : Option ℕ). open_at new 2 + open_at new 0 + unchosen c) chosen in
+      let before : choices_left world old ≡ open_at old 2 + open_at old 0 + 1 =
+      ap (λ (n : ℕ). left_of n (option_map_or (needed world old) (instruction_next world old.method old.stage) 0)) none
+      ∙ ap (λ (i : Option Instr). option_map_or (needed world old) i 0) next
+      ∙ ap (λ (c : Option ℕ). open_at old 2 + open_at old 0 + unchosen c) unchosen_yet in
+      omega (arith, array, value, now, before)
 
   -- ---- ways on
 

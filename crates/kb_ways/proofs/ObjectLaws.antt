@@ -1,11 +1,11 @@
 -- What a symbolic reference leads to at an input: an object of the picture lies at its place, a literal behind the input's
 -- objects, and an object that the run has made behind those. What a state keeps of their slots is what the heap has there.
-use Rattle.std.proofs.Common.{◌≡◌, ℕ, zero, suc, ◌+◌, ◌<◌, ◌≤◌, false, List, [], ◌∷◌, length, map, drop, replicate, nat_eq, slice_get, Option, Some, None, refl, sym, ap, subst, ◌∙◌, inl, inr, arith}
+use Rattle.std.proofs.Common.{◌≡◌, ℕ, zero, suc, ◌+◌, ◌<◌, ◌≤◌, Bool, true, false, List, [], ◌∷◌, length, map, drop, replicate, nat_eq, slice_get, Option, Some, None, if◌then◌else◌, refl, sym, ap, subst, ◌∙◌, inl, inr, arith}
 use Rattle.std.specs.Option.{option_map, option_map_or}
 use Rattle.std.proofs.lemmas.Bool.{eq-eqb, ne_eqb}
 use Rattle.std.proofs.lemmas.Bool.Decides.{eqb_tells}
 use Rattle.std.proofs.lemmas.List.{drop_at, length-map}
-use Rattle.std.proofs.lemmas.Option.{get_or_from_slice_get, slice_get-map, slice_get_within}
+use Rattle.std.proofs.lemmas.Option.{get_or_from_slice_get, same_Some, slice_get-map, slice_get_within}
 use Rattle.kb_class.specs.Naming.{Has}
 use Rattle.kb_class.proofs.Lists.{all_has}
 use Rattle.kb_heap.specs.declared.heap.Heap.{Heap}
@@ -29,8 +29,9 @@ use Rattle.kb_picture.specs.declared.picture.Length.TheVariants.{Is}
 use Rattle.kb_picture.specs.declared.picture.PicObject.{PicObject}
 use Rattle.kb_picture.specs.Endings.{Reading, place_at}
 use Rattle.kb_picture.specs.Shapes.{HasLength, HasShape, IsSuch}
-use Rattle.kb_picture.proofs.ChainLaws.{all_below, below_at, has_place as has_place_of, inside_there}
+use Rattle.kb_picture.proofs.ChainLaws.{all_below, below_at, has_place as has_place_of, inside_there, loc_at}
 use Rattle.kb_picture.proofs.PlaceLaws.{placed_parts}
+use Rattle.kb_picture.proofs.ShapeLaws.{place_inside}
 use Rattle.kb_frames.specs.declared.state.SymObject.{SymObject}
 use Rattle.kb_frames.specs.declared.value.SymValue.{SymValue}
 use Rattle.kb_frames.specs.declared.value.SymValue.TheVariants.{Int, Null, Obj, Literal, New, Loc}
@@ -213,36 +214,67 @@ module _ (world : World) (state : State) (cells : AreCells world state) (known :
   literal_below : (number other : ℕ) → number < literals → inputs + number < inputs + literals + other
   literal_below number other less = omega (arith, less)
 
-  -- Two references are one at the input where they are one in the state.
-  pub same_is : (one other : SymValue) → IsReference one → IsReference other → IsSymValue world state one → IsSymValue world state other
-      → same_reference (referred r one) (referred r other) ≡ same one other
+  -- a location has a place, which is one of the input
+  loc_below : (number : ℕ) → number < length state.picture.locs → place_at shape.places.locs number < inputs
+  loc_below number less =
+      let loc = there state.picture.locs number less in
+      let found = loc_at input places state.picture.locs shape.places.locs number loc.0 (placed_parts state.picture input shape.places shape.placed).locs loc.1 in
+      subst (λ (place : ℕ). place < inputs) (sym (get_or_from_slice_get shape.places.locs number found.0 0 found.1))
+      (place_inside input places loc.0.origin found.0 found.2).1
+
+  loc_far_below : (number other : ℕ) → number < length state.picture.locs → place_at shape.places.locs number < inputs + other
+  loc_far_below number other less = (let below : place_at shape.places.locs number < inputs = loc_below number less in omega (arith, below))
+
+  loc_below_made : (number other : ℕ) → number < length state.picture.locs → place_at shape.places.locs number < inputs + literals + other
+  loc_below_made number other less = (let below : place_at shape.places.locs number < inputs = loc_below number less in omega (arith, below))
+
+  -- one name of a location is itself, and of two nothing is told
+  locs_same : (n m : ℕ) (so : Bool) → (if nat_eq n m then Some true else None) ≡ Some so → nat_eq (place_at shape.places.locs n) (place_at shape.places.locs m) ≡ so
+  locs_same n m so e = elim (eqb_tells n m) [
+    | inl alike ↦
+      eq-eqb (place_at shape.places.locs n) (place_at shape.places.locs m) (ap (place_at shape.places.locs) alike.1)
+          ∙ same_Some true so (sym (ap (λ (b : Bool). if b then Some true else None) alike.0) ∙ e)
+    | inr apart ↦ absurd (nothing (sym (ap (λ (b : Bool). if b then Some true else None) apart.0) ∙ e))
+  ]
+    where
+      nothing : None ≡ Some so → ⊥
+      nothing h = cc
+
+  -- Whether two references are one at the input is what the state tells of them, where it does.
+  pub same_is : (one other : SymValue) (so : Bool) → IsReference one → IsReference other → IsSymValue world state one → IsSymValue world state other → same one other ≡ Some so
+      → same_reference (referred r one) (referred r other) ≡ so
   unfolding reading_at
-  same_is (Int t) other h k is si = absurd h
-  same_is (Loc n) other h k is si = absurd (no_loc n is)
-  same_is Null (Int t) h k is si = absurd k
-  same_is Null Null h k is si = refl
-  same_is Null (Obj m) h k is si = refl
-  same_is Null (Literal m) h k is si = refl
-  same_is Null (New m) h k is si = refl
-  same_is Null (Loc m) h k is si = absurd (no_loc m si)
-  same_is (Obj n) (Int t) h k is si = absurd k
-  same_is (Obj n) Null h k is si = refl
-  same_is (Obj n) (Obj m) h k is si = objects_same n m is si
-  same_is (Obj n) (Literal m) h k is si = below_same (place_at places n) (inputs + m) (object_below n m is)
-  same_is (Obj n) (New m) h k is si = below_same (place_at places n) (inputs + literals + m) (object_far_below n m is)
-  same_is (Obj n) (Loc m) h k is si = absurd (no_loc m si)
-  same_is (Literal n) (Int t) h k is si = absurd k
-  same_is (Literal n) Null h k is si = refl
-  same_is (Literal n) (Obj m) h k is si = above_same (inputs + n) (place_at places m) (object_below m n si)
-  same_is (Literal n) (Literal m) h k is si = shifted_same inputs n m
-  same_is (Literal n) (New m) h k is si = below_same (inputs + n) (inputs + literals + m) (literal_below n m is)
-  same_is (Literal n) (Loc m) h k is si = absurd (no_loc m si)
-  same_is (New n) (Int t) h k is si = absurd k
-  same_is (New n) Null h k is si = refl
-  same_is (New n) (Obj m) h k is si = above_same (inputs + literals + n) (place_at places m) (object_far_below m n si)
-  same_is (New n) (Literal m) h k is si = above_same (inputs + literals + n) (inputs + m) (literal_below m n si)
-  same_is (New n) (New m) h k is si = shifted_same (inputs + literals) n m
-  same_is (New n) (Loc m) h k is si = absurd (no_loc m si)
+  same_is (Int t) other so h k is si e = absurd h
+  same_is Null (Int t) so h k is si e = absurd k
+  same_is Null Null so h k is si e = same_Some true so e
+  same_is Null (Obj m) so h k is si e = same_Some false so e
+  same_is Null (Literal m) so h k is si e = same_Some false so e
+  same_is Null (New m) so h k is si e = same_Some false so e
+  same_is Null (Loc m) so h k is si e = same_Some false so e
+  same_is (Obj n) (Int t) so h k is si e = absurd k
+  same_is (Obj n) Null so h k is si e = same_Some false so e
+  same_is (Obj n) (Obj m) so h k is si e = objects_same n m is si ∙ same_Some (nat_eq n m) so e
+  same_is (Obj n) (Literal m) so h k is si e = below_same (place_at places n) (inputs + m) (object_below n m is) ∙ same_Some false so e
+  same_is (Obj n) (New m) so h k is si e = below_same (place_at places n) (inputs + literals + m) (object_far_below n m is) ∙ same_Some false so e
+  same_is (Obj n) (Loc m) so h k is si e = absurd cc
+  same_is (Literal n) (Int t) so h k is si e = absurd k
+  same_is (Literal n) Null so h k is si e = same_Some false so e
+  same_is (Literal n) (Obj m) so h k is si e = above_same (inputs + n) (place_at places m) (object_below m n si) ∙ same_Some false so e
+  same_is (Literal n) (Literal m) so h k is si e = shifted_same inputs n m ∙ same_Some (nat_eq n m) so e
+  same_is (Literal n) (New m) so h k is si e = below_same (inputs + n) (inputs + literals + m) (literal_below n m is) ∙ same_Some false so e
+  same_is (Literal n) (Loc m) so h k is si e = above_same (inputs + n) (place_at shape.places.locs m) (loc_far_below m n si) ∙ same_Some false so e
+  same_is (New n) (Int t) so h k is si e = absurd k
+  same_is (New n) Null so h k is si e = same_Some false so e
+  same_is (New n) (Obj m) so h k is si e = above_same (inputs + literals + n) (place_at places m) (object_far_below m n si) ∙ same_Some false so e
+  same_is (New n) (Literal m) so h k is si e = above_same (inputs + literals + n) (inputs + m) (literal_below m n si) ∙ same_Some false so e
+  same_is (New n) (New m) so h k is si e = shifted_same (inputs + literals) n m ∙ same_Some (nat_eq n m) so e
+  same_is (New n) (Loc m) so h k is si e = above_same (inputs + literals + n) (place_at shape.places.locs m) (loc_below_made m n si) ∙ same_Some false so e
+  same_is (Loc n) (Int t) so h k is si e = absurd k
+  same_is (Loc n) Null so h k is si e = same_Some false so e
+  same_is (Loc n) (Obj m) so h k is si e = absurd cc
+  same_is (Loc n) (Literal m) so h k is si e = below_same (place_at shape.places.locs n) (inputs + m) (loc_far_below n m is) ∙ same_Some false so e
+  same_is (Loc n) (New m) so h k is si e = below_same (place_at shape.places.locs n) (inputs + literals + m) (loc_below_made n m is) ∙ same_Some false so e
+  same_is (Loc n) (Loc m) so h k is si e = locs_same n m so e
 
   -- ---- the object to which a value leads
 

@@ -2,11 +2,13 @@ pub mod Asked
 pub mod Choosing
 pub mod Kept
 pub mod Operands
+pub mod Known
 pub mod Identity
 pub mod Types
 pub mod Ways
 pub mod Plans
 pub mod Questions
+pub mod Looked
 pub mod Slots
 pub mod Turns
 pub mod Advancing

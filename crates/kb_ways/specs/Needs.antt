@@ -60,6 +60,7 @@ pub record AreSides (nodes : List Node) (condition : Condition) : Type 0 where
 -- the int that is asked about is a term of the pool, and an int counts the elements
 abbrev pub IsQuestionIn : List Node → Question → Type 0
 IsQuestionIn nodes (questions.Reads slot type) = Unit {0}
+IsQuestionIn nodes (questions.Accesses number) = Unit {0}
 IsQuestionIn nodes (questions.Index x count) = IsTerm nodes x × (count < 2 ^ 31)
 IsQuestionIn nodes (questions.Length x most) = IsTerm nodes x × (most < 2 ^ 31)
 

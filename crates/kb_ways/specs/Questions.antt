@@ -1,8 +1,9 @@
 -- What a step of a state must be told before it can be carried out, one thing at a time, and what an answer makes of the state:
--- what a slot holds that is read for the first time (lazy initialisation: Khurshid, Păsăreanu and Visser, TACAS 2003), which place
--- of an array an index is, and how long an array is to be. Where the run then goes beyond a bound it is cut. Behind an argument
--- that is read the state asks for its next choice; behind a place it does so where the instruction must still be told what lies
--- there, and that is chosen; else the instruction is carried out.
+-- what a slot holds that is read for the first time (lazy initialisation: Khurshid, Păsăreanu and Visser, TACAS 2003), which object
+-- a location is that is looked into (Deng, Lee and Robby, ASE 2006), which place of an array an index is, and how long an array is
+-- to be. Where the run then goes beyond a bound it is cut. Behind an argument that is read the state asks for its next choice;
+-- behind an object or a place it does so where the instruction must still be told something that is chosen; else the instruction
+-- is carried out.
 use Rattle.std.specs.Prelude.{Option, Some, None, option_and_then, if◌then◌else◌}
 use Rattle.kb_code.specs.declared.instruction.Instr.{Instr}
 use Rattle.kb_heap.specs.declared.bounds.Bound.{Bound}
@@ -17,6 +18,7 @@ use Rattle.kb_picture.specs.declared.picture.Origin.{Origin}
 use Rattle.kb_picture.specs.declared.picture.Origin.TheVariants.{Arg, Field, Element}
 use Rattle.kb_picture.specs.Queries.{kind_for}
 use Rattle.kb_frames.specs.declared.value.Outcome.TheVariants.{Asks, Cut}
+use Rattle.kb_frames.specs.Bindings.{bound}
 use Rattle.kb_frames.specs.FirstReads.{first_int, first_reference}
 use Rattle.kb_frames.specs.Lent.{placed}
 use Rattle.kb_frames.specs.Next.{instruction_next}
@@ -37,9 +39,11 @@ abbrev pub with_place : Choice → State → State
 with_place (Index place) state = placed place state
 with_place _ state = state
 
--- the slot is read for the first time; or what the alternative asks for is added, and its place is chosen
+-- the slot is read for the first time; or the location is that object; or what the alternative asks for is added, and its place
+-- is chosen
 abbrev pub answered : World → Choice → State → Question → State
 answered world choice state (Reads slot type) = if is_reference_type type then first_reference world slot choice state else first_int slot (kind_for (Some type)) state
+answered world choice state (questions.Accesses number) = bound world number choice state
 answered world choice state (questions.Index x count) = with_place choice (all_asked state (index_conditions x count choice))
 answered world choice state (questions.Length x most) = all_asked state (length_conditions x most choice)
 
@@ -72,14 +76,15 @@ behind_read plan_of world bounds (Arg number) state = asks state
 behind_read plan_of world bounds (Field object slot) state = takes_up plan_of world bounds Only state
 behind_read plan_of world bounds (Element array index) state = takes_up plan_of world bounds Only state
 
--- A place is followed by what the instruction must still be told: an int that is read for the first time chooses nothing, and the
--- instruction is carried out; a reference is chosen next.
-abbrev pub behind_place : Plan → World → Bounds → Choice → State → Option Question → Take
-behind_place plan_of world bounds choice state None = takes_up plan_of world bounds choice state
-behind_place plan_of world bounds choice state (Some (Reads slot type)) =
+-- An object or a place is followed by what the instruction must still be told: an int that is read for the first time chooses
+-- nothing, and the instruction is carried out; all else is chosen next.
+abbrev pub behind_told : Plan → World → Bounds → Choice → State → Option Question → Take
+behind_told plan_of world bounds choice state None = takes_up plan_of world bounds choice state
+behind_told plan_of world bounds choice state (Some (Reads slot type)) =
     if is_reference_type type then asks state else takes_up plan_of world bounds choice (answered world choice state (Reads slot type))
-behind_place plan_of world bounds choice state (Some (questions.Index x count)) = asks state
-behind_place plan_of world bounds choice state (Some (questions.Length x most)) = asks state
+behind_told plan_of world bounds choice state (Some (questions.Accesses number)) = asks state
+behind_told plan_of world bounds choice state (Some (questions.Index x count)) = asks state
+behind_told plan_of world bounds choice state (Some (questions.Length x most)) = asks state
 
 -- what the present instruction must be told
 abbrev pub asked_next : Asking → World → State → Option Question
@@ -87,11 +92,12 @@ asked_next asking world state = option_and_then (asking world state) (instructio
 
 -- outside there is no place, and nothing is left to be told
 abbrev pub behind_index : Asking → Plan → World → Bounds → Choice → State → Take
-behind_index asking plan_of world bounds (Index place) state = behind_place plan_of world bounds (Index place) state (asked_next asking world state)
+behind_index asking plan_of world bounds (Index place) state = behind_told plan_of world bounds (Index place) state (asked_next asking world state)
 behind_index asking plan_of world bounds choice state = takes_up plan_of world bounds choice state
 
 abbrev pub goes_behind : Asking → Plan → World → Bounds → Choice → State → Question → Take
 goes_behind asking plan_of world bounds choice state (Reads slot type) = behind_read plan_of world bounds slot state
+goes_behind asking plan_of world bounds choice state (questions.Accesses number) = behind_told plan_of world bounds choice state (asked_next asking world state)
 goes_behind asking plan_of world bounds choice state (questions.Index x count) = behind_index asking plan_of world bounds choice state
 goes_behind asking plan_of world bounds choice state (questions.Length x most) = takes_up plan_of world bounds choice state
 

@@ -28,6 +28,7 @@ pub fn answer(
 {
     match question {
         Question::Reads(slot, kind) => read_first(world, state, choice, *slot, kind),
+        Question::Accesses(location) => state.bind(world, *location, choice),
         Question::Index(x, count) => choose_index(world, state, choice, *x, *count),
         Question::Length(x, most) => ask_length(state, *x, *most, choice),
     }

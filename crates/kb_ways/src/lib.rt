@@ -15,6 +15,7 @@ mod condition;
 mod exception;
 mod identity;
 mod kept;
+mod known;
 mod method;
 mod operands;
 mod place;
@@ -39,9 +40,11 @@ pub use condition::{
 pub use exception::Thrown;
 pub use identity::same;
 pub use kept::{is_of_kind, keep};
+pub use known::{first_open, known_at, open_operand, open_side};
 pub use method::{is_local, result_of};
 pub use operands::{
-    a_reference, an_int, an_object_and_value, int_term, reference, two_ints, two_references,
+    a_known_reference, a_reference, an_int, an_object_and_value, int_term, reference, two_ints,
+    two_references,
 };
 pub use question::Question;
 pub use slots::{first_ask, held_in, put_in, value_of_cell};

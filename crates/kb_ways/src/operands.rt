@@ -1,9 +1,11 @@
 //! What instructions take from the operand stack of a state. Nothing is taken off it here.
 ghost use Rattle.std.specs.Prelude.{◌≡◌};
 ghost use Rattle.kb_frames.specs.Lent.{stack_of};
+ghost use Rattle.kb_ways.specs.Known.{known_stack};
 ghost use Rattle.kb_ways.specs.Operands.{a_reference, an_int, an_object_and_value, int_term, of_kind, reference, two_ints, two_references};
 
 use crate::kept::is_of_kind;
+use crate::known::known_at;
 use kb_frames::{SymState, SymValue};
 use kb_names::JType;
 use kb_terms::TermId;
@@ -71,20 +73,29 @@ pub fn a_reference(state: &SymState) -> Option<SymValue>
     reference(state.value_at(0))
 }
 
+// ---- as they are known
+
+/// A reference.
+pub fn a_known_reference(state: &SymState) -> Option<SymValue>
+    ensures { result ≡ a_reference (known_stack state.now) }
+{
+    reference(known_at(state, 0))
+}
+
 /// Two references, the lower one first.
 pub fn two_references(state: &SymState) -> Option<(SymValue, SymValue)>
-    ensures { result ≡ two_references (stack_of state.now.stage) }
+    ensures { result ≡ two_references (known_stack state.now) }
 {
-    let right = reference(state.value_at(0))?;
-    let left = reference(state.value_at(1))?;
+    let right = reference(known_at(state, 0))?;
+    let left = reference(known_at(state, 1))?;
     Some((left, right))
 }
 
 /// An object and a value for a field of the type.
 pub fn an_object_and_value(state: &SymState, kind: &JType) -> Option<(SymValue, SymValue)>
-    ensures { result ≡ an_object_and_value kind.now (stack_of state.now.stage) }
+    ensures { result ≡ an_object_and_value kind.now (known_stack state.now) }
 {
-    let value = of_kind(kind, state.value_at(0))?;
-    let object = reference(state.value_at(1))?;
+    let value = of_kind(kind, known_at(state, 0))?;
+    let object = reference(known_at(state, 1))?;
     Some((object, value))
 }

@@ -9,6 +9,8 @@ use kb_terms::TermId;
 pub enum Question {
     /// What the slot of that declared type holds, which is read for the first time.
     Reads(Origin, JType),
+    /// Which object the location of that number is, which is looked into.
+    Accesses(u32),
     /// Which place of an array of so many elements an index is, if it is one.
     Index(TermId, u32),
     /// How long an array is to be, where at most so many elements are made.
