@@ -30,14 +30,18 @@ use Rattle.kb_frames.specs.State.{State}
 use Rattle.kb_frames.specs.States.{Each, IsSymValue}
 use Rattle.kb_frames.proofs.ItemLaws.{each_append, each_cons, each_drop, each_rest, no_items}
 use Rattle.kb_ways.specs.Identity.{same}
-use Rattle.kb_ways.specs.Plans.{Planned, followed, plain, planned, here}
+use Rattle.kb_ways.specs.Known.{known}
+use Rattle.kb_ways.specs.Plans.{Planned, followed, plain, planned, here, pushes_term}
 use Rattle.kb_ways.specs.Ways.{Enters, Fails, Throws, with_stack}
 use Rattle.kb_stepcall.specs.Calls.{calls, calls_method, calls_on, invokes, on_object, selected_for}
 use Rattle.kb_ways.specs.Types.{object_type}
 use Rattle.kb_ways.proofs.PlannedLaws.{Follows, IsPlan, Situation, fails_is, if_is, number_is, plain_is, plan_follows, so, stack_is, state_of, there_is, with_is, with_same}
 use Rattle.kb_stepcall.specs.Operands.{are_of_kinds, argument_of, operand_types, operands_of, receiver_of, reference_at, topmost}
 use Rattle.kb_stepcall.specs.Platform.{answers_at_once, equals}
-use Rattle.kb_ways.proofs.ObjectLaws.{object_there, same_is}
+use Rattle.kb_ways.proofs.KnownLaws.{known_without}
+use Rattle.kb_ways.proofs.ObjectLaws.{object_there, same_told}
+use Rattle.kb_terms.specs.declared.node.Node.TheVariants.{Const}
+use Rattle.kb_terms.specs.Terms.{interned}
 use Rattle.kb_stepcall.proofs.OperandLaws.{given, is_reference_at, operands_are, reference_at_is}
 use Rattle.kb_ways.proofs.ReferenceLaws.{IsReference, referred}
 use Rattle.kb_ways.specs.Operands.{reference}
@@ -123,17 +127,22 @@ module _ (world : World) (bounds : Bounds) (at : Situation world bounds) (next :
   -- ---- a call with its operands
 
   module _ (args rest : List SymValue) (each : Each (IsSymValue world state) args) (left : Each (IsSymValue world state) rest) where
-    same_there : same_reference (machine_receiver (V args)) (machine_argument (V args)) ≡ same (receiver_of args) (argument_of args)
+    known_is : (value : SymValue) → known state value ≡ value
+    known_is value = known_without state.picture.locs value at.known
+
+    same_there : same (known state (receiver_of args)) (known state (argument_of args)) ≡ Some (same_reference (machine_receiver (V args)) (machine_argument (V args)))
     same_there =
-        ap (λ of. same_reference of (machine_argument (V args))) (reference_at_is r args 0) ∙ ap (same_reference (referred r (receiver_of args))) (reference_at_is r args 1)
-        ∙ same_is world state at.sound.cells at.known at.input at.correct at.stands.instance_of.shape c.heap at.stands.heap (receiver_of args) (argument_of args) (is_reference_at args 0) (is_reference_at args 1)
+        ap (λ (one : SymValue). same one (known state (argument_of args))) (known_is (receiver_of args)) ∙ ap (same (receiver_of args)) (known_is (argument_of args))
+        ∙ same_told world state at.sound.cells at.known at.input at.correct at.stands.instance_of.shape c.heap at.stands.heap (receiver_of args) (argument_of args) (is_reference_at args 0) (is_reference_at args 1)
         (there_at world state args 0 each) (there_at world state args 1 each)
+        ∙ ap (λ of. Some (same_reference of (referred r (argument_of args)))) (sym (reference_at_is r args 0))
+        ∙ ap (λ of. Some (same_reference (machine_receiver (V args)) of)) (sym (reference_at_is r args 1))
 
     equals_is : Is (goes s c next (IntValue (truth (same_reference (machine_receiver (V args)) (machine_argument (V args)))) ∷ V rest)) (equals state args rest)
     equals_is =
-        so world bounds at next (goes s c next (IntValue (truth (same_reference (machine_receiver (V args)) (machine_argument (V args)))) ∷ V rest))
-        (goes s c next (IntValue (truth (same (receiver_of args) (argument_of args))) ∷ V rest)) (equals state args rest) (ap (λ (b : Bool). goes s c next (IntValue (truth b) ∷ V rest)) same_there)
-        (number_is world bounds at next (truth (same (receiver_of args) (argument_of args))) rest left)
+        subst (λ (it : Option Bool). Is (goes s c next (IntValue (truth (same_reference (machine_receiver (V args)) (machine_argument (V args)))) ∷ V rest))
+        (planned state it (λ so. pushes_term state rest (interned state.nodes (Const (truth so)))))) (sym same_there)
+        (number_is world bounds at next (truth (same_reference (machine_receiver (V args)) (machine_argument (V args)))) rest left)
 
     at_once_is : (b : Bool)
         → Is (goes s c next (pushed (if b then Some (IntValue (truth (same_reference (machine_receiver (V args)) (machine_argument (V args))))) else None) (V rest)))
@@ -182,7 +191,7 @@ module _ (world : World) (bounds : Bounds) (at : Situation world bounds) (next :
         receiver_is (λ object. machine_invokes s next c (selected_at world (here world state) entry callee object.kind) (V args) (V rest))
         (calls world state (selected_for world state entry callee (receiver_of args)) args rest)
         (λ object kind. subst (λ (it : Option ExactType). Is (machine_invokes s next c (selected_at world (here world state) entry callee object.kind) (V args) (V rest))
-        (calls world state (option_and_then (selected_at world (here world state) entry callee) it) args rest)) (sym kind) (calls_is (selected_at world (here world state) entry callee object.kind)))
+        (calls world state (option_and_then (selected_at world (here world state) entry callee) it) args rest)) (sym (ap (object_type state) (known_is (receiver_of args)) ∙ kind)) (calls_is (selected_at world (here world state) entry callee object.kind)))
 
   -- ---- the call
 

@@ -18,6 +18,7 @@ use Rattle.kb_frames.specs.Lent.{stack_of}
 use Rattle.kb_frames.specs.Making.{with_made}
 use Rattle.kb_frames.specs.Next.{method_now}
 use Rattle.kb_ways.specs.Identity.{same}
+use Rattle.kb_ways.specs.Known.{known}
 use Rattle.kb_ways.specs.Plans.{Planned, here, plain, planned, pushes_term}
 use Rattle.kb_ways.specs.Ways.{Enters, Fails, Throws, with_stack}
 use Rattle.kb_ways.proofs.GrowLaws.{if_has, option_has}
@@ -45,7 +46,8 @@ module _ (P : Planned → Type 0) (world : World) (state : State) where
     at_once_has : (method : MethodInfo) (count : ℕ) → P (answers_at_once world state method (topmost count stack) (drop count stack))
     at_once_has method count =
         if_has P (is_equals world method) (equals state (topmost count stack) (drop count stack)) (plain state (with_stack state (drop count stack)))
-        (h.term (truth (same (receiver_of (topmost count stack)) (argument_of (topmost count stack)))) count) (h.nothing count)
+        (planned_has (same (known state (receiver_of (topmost count stack))) (known state (argument_of (topmost count stack)))) (λ so. pushes_term state (drop count stack) (interned state.nodes (Const (truth so))))
+        (λ so. h.term (truth so) count)) (h.nothing count)
 
     method_has : (number : ℕ) (method : MethodInfo) (count : ℕ) → P (calls_method world state number method (topmost count stack) (drop count stack))
     method_has number method count =

@@ -12,6 +12,7 @@ use Rattle.kb_frames.specs.declared.value.SymValue.{SymValue}
 use Rattle.kb_frames.specs.declared.value.SymValue.TheVariants.{Null}
 use Rattle.kb_frames.specs.State.{State}
 use Rattle.kb_frames.specs.Lent.{stack_of}
+use Rattle.kb_ways.specs.Known.{known}
 use Rattle.kb_ways.specs.Plans.{Planned, here, plain, planned}
 use Rattle.kb_ways.specs.Types.{object_type}
 use Rattle.kb_ways.specs.Ways.{Enters, Fails, Throws}
@@ -39,9 +40,9 @@ abbrev pub on_object : State → SymValue → Planned → Planned
 on_object state Null plan = plain state (Throws null_pointer)
 on_object state receiver plan = plan
 
--- what is selected by its exact type
+-- what is selected by its exact type, as it is known
 abbrev pub selected_for : World → State → ℕ → Callee → SymValue → Option ℕ
-selected_for world state entry callee receiver = option_and_then (selected_at world (here world state) entry callee) (object_type state receiver)
+selected_for world state entry callee receiver = option_and_then (selected_at world (here world state) entry callee) (object_type state (known state receiver))
 
 abbrev pub calls_on : CallKind → World → State → ℕ → Callee → List SymValue → List SymValue → Planned
 calls_on Static world state entry callee args rest = calls world state (resolved_method world (here world state) entry) args rest

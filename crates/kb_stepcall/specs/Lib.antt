@@ -2,3 +2,4 @@ pub mod Operands
 pub mod Platform
 pub mod Calls
 pub mod Making
+pub mod Looked

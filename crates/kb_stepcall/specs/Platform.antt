@@ -10,13 +10,15 @@ use Rattle.kb_terms.specs.Terms.{interned}
 use Rattle.kb_frames.specs.declared.value.SymValue.{SymValue}
 use Rattle.kb_frames.specs.State.{State}
 use Rattle.kb_ways.specs.Identity.{same}
-use Rattle.kb_ways.specs.Plans.{Planned, plain, pushes_term}
+use Rattle.kb_ways.specs.Known.{known}
+use Rattle.kb_ways.specs.Plans.{Planned, plain, planned, pushes_term}
 use Rattle.kb_ways.specs.Ways.{with_stack}
 use Rattle.kb_stepcall.specs.Operands.{argument_of, receiver_of}
 
--- Object.equals of these operands: `rest` is left on the stack, and the term of 1 or 0 lies on it
+-- Object.equals of these operands, as they are known: `rest` is left on the stack, and the term of 1 or 0 lies on it
 abbrev pub equals : State → List SymValue → List SymValue → Planned
-equals state args rest = pushes_term state rest (interned state.nodes (Const (truth (same (receiver_of args) (argument_of args)))))
+equals state args rest =
+    planned state (same (known state (receiver_of args)) (known state (argument_of args))) (λ so. pushes_term state rest (interned state.nodes (Const (truth so))))
 
 -- A method of a platform class is called with these operands.
 abbrev pub answers_at_once : World → State → MethodInfo → List SymValue → List SymValue → Planned

@@ -104,7 +104,7 @@ fn call_selected(
     if let SymValue::Null = receiver {
         return throws(turn, state, NULL_POINTER);
     }
-    let found = select(turn, state, entry, callee, receiver)?;
+    let found = select(turn, state, entry, callee, state.resolved(receiver))?;
     calls(turn, state, found, count)
 }
 

@@ -11,7 +11,7 @@ use crate::operands::operand;
 use kb_class::MethodInfo;
 use kb_frames::{Outcome, SymState};
 use kb_lookups::is_equals;
-use kb_ways::{Turn, push_truth, replaces, same};
+use kb_ways::{Turn, ill_typed, push_truth, replaces, same};
 
 /// Object.equals answers whether its operands are one object; each other one is a constructor, which does nothing. It takes no
 /// frame.
@@ -35,6 +35,10 @@ fn equals(turn: &Turn<'_>, state: &mut SymState, count: usize) -> Result<Outcome
     requires { IsFor turn.now state.old }
     ensures { IfOk result (λ outcome. told state.new outcome ≡ led_by turn.now (equals state.old (topmost count (stack_of state.old.stage)) (drop count (stack_of state.old.stage)))) }
 {
-    let so = same(operand(state, count, 0), operand(state, count, 1));
-    push_truth(turn, state, count, so)
+    let receiver = state.resolved(operand(state, count, 0));
+    let argument = state.resolved(operand(state, count, 1));
+    match same(receiver, argument) {
+        Some(so) => push_truth(turn, state, count, so),
+        None => ill_typed(turn, state),
+    }
 }

@@ -232,8 +232,8 @@ module _ (world : World) (state : State) (cells : AreCells world state) (known :
   locs_same : (n m : ℕ) (so : Bool) → (if nat_eq n m then Some true else None) ≡ Some so → nat_eq (place_at shape.places.locs n) (place_at shape.places.locs m) ≡ so
   locs_same n m so e = elim (eqb_tells n m) [
     | inl alike ↦
-      eq-eqb (place_at shape.places.locs n) (place_at shape.places.locs m) (ap (place_at shape.places.locs) alike.1)
-          ∙ same_Some true so (sym (ap (λ (b : Bool). if b then Some true else None) alike.0) ∙ e)
+        eq-eqb (place_at shape.places.locs n) (place_at shape.places.locs m) (ap (place_at shape.places.locs) alike.1)
+        ∙ same_Some true so (sym (ap (λ (b : Bool). if b then Some true else None) alike.0) ∙ e)
     | inr apart ↦ absurd (nothing (sym (ap (λ (b : Bool). if b then Some true else None) apart.0) ∙ e))
   ]
     where
@@ -275,6 +275,43 @@ module _ (world : World) (state : State) (cells : AreCells world state) (known :
   same_is (Loc n) (Literal m) so h k is si e = below_same (place_at shape.places.locs n) (inputs + m) (loc_far_below n m is) ∙ same_Some false so e
   same_is (Loc n) (New m) so h k is si e = below_same (place_at shape.places.locs n) (inputs + literals + m) (loc_below_made n m is) ∙ same_Some false so e
   same_is (Loc n) (Loc m) so h k is si e = locs_same n m so e
+
+  -- where there are no locations, it always does
+  all_told : (one other : SymValue) → IsSymValue world state one → IsSymValue world state other → same one other ≡ None → ⊥
+  all_told (Int t) other is si e = cc
+  all_told Null (Int t) is si e = cc
+  all_told Null Null is si e = cc
+  all_told Null (Obj m) is si e = cc
+  all_told Null (Literal m) is si e = cc
+  all_told Null (New m) is si e = cc
+  all_told Null (Loc m) is si e = cc
+  all_told (Obj n) (Int t) is si e = cc
+  all_told (Obj n) Null is si e = cc
+  all_told (Obj n) (Obj m) is si e = cc
+  all_told (Obj n) (Literal m) is si e = cc
+  all_told (Obj n) (New m) is si e = cc
+  all_told (Obj n) (Loc m) is si e = no_loc m si
+  all_told (Literal n) (Int t) is si e = cc
+  all_told (Literal n) Null is si e = cc
+  all_told (Literal n) (Obj m) is si e = cc
+  all_told (Literal n) (Literal m) is si e = cc
+  all_told (Literal n) (New m) is si e = cc
+  all_told (Literal n) (Loc m) is si e = cc
+  all_told (New n) (Int t) is si e = cc
+  all_told (New n) Null is si e = cc
+  all_told (New n) (Obj m) is si e = cc
+  all_told (New n) (Literal m) is si e = cc
+  all_told (New n) (New m) is si e = cc
+  all_told (New n) (Loc m) is si e = cc
+  all_told (Loc n) other is si e = no_loc n is
+
+  pub same_told : (one other : SymValue) → IsReference one → IsReference other → IsSymValue world state one → IsSymValue world state other
+      → same one other ≡ Some (same_reference (referred r one) (referred r other))
+  same_told one other h k is si = go (same one other) refl
+    where
+      go : (it : Option Bool) → same one other ≡ it → it ≡ Some (same_reference (referred r one) (referred r other))
+      go None e = absurd (all_told one other is si e)
+      go (Some so) e = ap (λ (b : Bool). Some b) (sym (same_is one other so h k is si e))
 
   -- ---- the object to which a value leads
 
