@@ -27,8 +27,10 @@ use Rattle.kb_frames.specs.StandsFor.{reading_at, value_of_sym, values_of_sym}
 use Rattle.kb_frames.specs.State.{State}
 use Rattle.kb_frames.specs.States.{IsSymValue}
 use Rattle.kb_frames.proofs.ItemLaws.{each_drop}
+use Rattle.kb_ways.specs.Operands.{a_reference}
 use Rattle.kb_ways.specs.Plans.{Planned, planned, pushes_term}
 use Rattle.kb_ways.specs.Ways.{Throws}
+use Rattle.kb_ways.proofs.KnownLaws.{stack_without}
 use Rattle.kb_ways.proofs.PlannedLaws.{IsPlan, Situation, fails_is, number_is, plain_is, reference_there, so, state_of, with_reference}
 use Rattle.kb_ways.proofs.ReferenceLaws.{IsReference, referred}
 use Rattle.kb_picture.specs.Queries.{component_of as component_in}
@@ -125,9 +127,14 @@ module _ (world : World) (bounds : Bounds) (at : Situation world bounds) (bounde
   length_told (New n) kind is = named_is (New n) _ is refl
   length_told (Loc n) kind is = named_is (Loc n) _ is refl
 
-  -- arraylength does to the state what it does to the configuration.
-  pub tells_length_is : Is (array_length s next c) (tells_length state)
+  -- by the operand of a stack
+  tells_on_is : Is (array_length s next c) (planned state (a_reference at.frame.stack) (tells_length_of state))
   unfolding array_length
-  tells_length_is =
+  tells_on_is =
       with_reference world bounds at next (λ (t : Taken Reference). on_array s c t.it any (λ of machine. goes s c next (IntValue (pos (length machine.values)) ∷ t.rest))) (tells_length_of state)
       (λ value e. (let there = reference_there world bounds at next 0 value e in length_told value there.0 there.1))
+
+  -- arraylength does to the state what it does to the configuration.
+  pub tells_length_is : Is (array_length s next c) (tells_length state)
+  tells_length_is =
+      subst (λ (stack : List SymValue). Is (array_length s next c) (planned state (a_reference stack) (tells_length_of state))) (sym (stack_without state at.known)) tells_on_is

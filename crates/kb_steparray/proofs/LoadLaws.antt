@@ -1,6 +1,6 @@
 -- A load and arraylength make of a state what they make of the configuration, with each symbolic value in the place of its value:
 -- so a step of them goes where the machine's step goes.
-use Rattle.std.proofs.Common.{◌≡◌, ℕ, ℤ, List, ◌∷◌, length, drop, slice_get, Option, Some, None, refl, ap, ◌∙◌}
+use Rattle.std.proofs.Common.{◌≡◌, ℕ, ℤ, List, ◌∷◌, length, drop, slice_get, Option, Some, None, refl, sym, ap, subst, ◌∙◌}
 use Rattle.std.specs.Option.{option_map, option_map_or}
 use Rattle.kb_code.specs.declared.instruction.Elem.{Elem}
 use Rattle.kb_heap.specs.declared.bounds.Bounds.{Bounds}
@@ -24,6 +24,7 @@ use Rattle.kb_frames.specs.States.{IsSymValue}
 use Rattle.kb_ways.specs.Plans.{Planned, plain, planned}
 use Rattle.kb_ways.specs.Slots.{held_in}
 use Rattle.kb_ways.specs.Ways.{Throws, with_stack}
+use Rattle.kb_ways.proofs.KnownLaws.{stack_without}
 use Rattle.kb_ways.proofs.PlannedLaws.{IsPlan, Situation, fails_is, plain_is, reference_there, so, stack_is, state_of, with_is}
 use Rattle.kb_ways.proofs.ReferenceLaws.{IsReference, referred}
 use Rattle.kb_steparray.specs.Arrays.{AreCounted, Array, array_of}
@@ -130,14 +131,23 @@ module _ (world : World) (bounds : Bounds) (at : Situation world bounds) (bounde
   abbrev loads : Elem → Taken (Reference × ℤ) → Outcome
   loads elem t = on_array s c t.it.0 (takes_component elem) (λ o array. on_place s c array t.it.1 (λ place. with s c (slice_get array.values place) (λ v. goes s c next (v ∷ t.rest))))
 
-  -- Where the place is told, and the element there, a load does to the state what it does to the configuration.
-  pub loads_element_is : (elem : Elem) → ((t : SymValue × TermId) → an_element at.frame.stack ≡ Some t → TellsAll elem t.0 (int_value r t.1))
-      → Is (load_element elem s next c) (loads_element state elem)
+  -- by the operands of a stack
+  abbrev loads_on : Elem → List SymValue → Planned
+  loads_on elem stack = planned state (an_element stack) (λ (t : SymValue × TermId). load_from state elem t.0)
+
+  loads_on_is : (elem : Elem) → ((t : SymValue × TermId) → an_element at.frame.stack ≡ Some t → TellsAll elem t.0 (int_value r t.1)) → Is (load_element elem s next c) (loads_on elem at.frame.stack)
   unfolding load_element
-  loads_element_is elem told =
-      so world bounds at next (with s c (machine_element c.frame.stack) (loads elem)) (with s c (option_map (element_of r at.frame.stack) (an_element at.frame.stack)) (loads elem)) (loads_element state elem)
+  loads_on_is elem told =
+      so world bounds at next (with s c (machine_element c.frame.stack) (loads elem)) (with s c (option_map (element_of r at.frame.stack) (an_element at.frame.stack)) (loads elem))
+      (loads_on elem at.frame.stack)
       (ap (λ (it : Option (Taken (Reference × ℤ))). with s c it (loads elem)) (ap machine_element at.stands.stage.0.stack ∙ element_is r at.frame.stack))
       (with_is world bounds at next (element_of r at.frame.stack) (loads elem) (λ (t : SymValue × TermId). load_from state elem t.0) (an_element at.frame.stack) taken)
     where
       taken : (t : SymValue × TermId) → an_element at.frame.stack ≡ Some t → Is (loads elem (element_of r at.frame.stack t)) (load_from state elem t.0)
       taken t e = (let there = reference_there world bounds at next 1 t.0 (two_parts at.frame.stack t e).array in from_is elem t.0 (int_value r t.1) there.0 there.1 (told t e))
+
+  -- Where the place is told, and the element there, a load does to the state what it does to the configuration.
+  pub loads_element_is : (elem : Elem) → ((t : SymValue × TermId) → an_element at.frame.stack ≡ Some t → TellsAll elem t.0 (int_value r t.1))
+      → Is (load_element elem s next c) (loads_element state elem)
+  loads_element_is elem told =
+      subst (λ (stack : List SymValue). Is (load_element elem s next c) (loads_on elem stack)) (sym (stack_without state at.known)) (loads_on_is elem told)

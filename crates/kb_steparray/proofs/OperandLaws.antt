@@ -11,12 +11,13 @@ use Rattle.kb_terms.specs.Terms.{int_at}
 use Rattle.kb_picture.specs.Endings.{Reading}
 use Rattle.kb_frames.specs.declared.value.SymValue.{SymValue}
 use Rattle.kb_frames.specs.declared.value.SymValue.TheVariants.{Int, Null, Obj, Literal, New, Loc}
-use Rattle.kb_frames.specs.Lent.{stack_of}
 use Rattle.kb_frames.specs.StandsFor.{value_of_sym, values_of_sym}
 use Rattle.kb_frames.specs.State.{State}
+use Rattle.kb_ways.specs.Known.{known_stack}
 use Rattle.kb_ways.specs.Needs.{HasTerms, IsTermOf}
 use Rattle.kb_ways.specs.Operands.{an_int, int_term, reference}
 use Rattle.kb_ways.proofs.KeptLaws.{reference_is}
+use Rattle.kb_ways.proofs.KnownLaws.{term_known}
 use Rattle.kb_ways.proofs.ReferenceLaws.{below_is, pair_below, referred}
 use Rattle.kb_steparray.specs.Operands.{an_element, an_element_and_value, of_elem}
 
@@ -80,9 +81,9 @@ three_parts elem stack t e = go (of_elem elem (slice_get stack 0)) (int_term (sl
       }
 
 -- the value of a store is a term, where it is an int
-pub value_there : (state : State) (elem : Elem) (t : SymValue × TermId × SymValue) → HasTerms state → Some t ≡ an_element_and_value elem (stack_of state.stage) → IsTermOf state.nodes (Some t.2)
+pub value_there : (state : State) (elem : Elem) (t : SymValue × TermId × SymValue) → HasTerms state → Some t ≡ an_element_and_value elem (known_stack state) → IsTermOf state.nodes (Some t.2)
 value_there state elem t has e =
-    subst (IsTermOf state.nodes) (elem_is elem (slice_get (stack_of state.stage) 0) t.2 (three_parts elem (stack_of state.stage) t (sym e)).value) (has.stack 0)
+    subst (IsTermOf state.nodes) (elem_is elem (slice_get (known_stack state) 0) t.2 (three_parts elem (known_stack state) t (sym e)).value) (term_known state 0 has)
 
 -- ---- values
 

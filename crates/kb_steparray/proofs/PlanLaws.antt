@@ -19,6 +19,7 @@ use Rattle.kb_frames.specs.Making.{with_array}
 use Rattle.kb_frames.specs.Next.{method_now}
 use Rattle.kb_frames.specs.State.{State}
 use Rattle.kb_ways.specs.Kept.{is_of_kind, kept, kept_in}
+use Rattle.kb_ways.specs.Known.{known_stack}
 use Rattle.kb_ways.specs.Operands.{a_reference, an_int}
 use Rattle.kb_ways.specs.Plans.{Planned, plain, planned, pushes_term}
 use Rattle.kb_ways.specs.Slots.{held_in}
@@ -34,12 +35,16 @@ module _ (P : Planned → Type 0) (world : World) (state : State) (choice : Choi
   abbrev stack : List SymValue
   stack = stack_of state.stage
 
+  -- each value of the stack, as it is known
+  abbrev values : List SymValue
+  values = known_stack state
+
   -- it fails, throws, reads an element, writes one, tells a length or makes an array
   pub record HasWays : Type 0 where
     pub fails : P (plain state Fails)
     pub throws : (class : List ℕ) → P (plain state (Throws class))
     pub reads : (array : SymValue) (place : ℕ) (value : SymValue) → held_in state array place ≡ Some value → P (plain state (with_stack state (value ∷ drop 2 stack)))
-    pub writes : (component : JType) (array : SymValue) (place : ℕ) (value : SymValue) → slice_get stack 0 ≡ Some value → P (store_kept state array place (kept_in component value state))
+    pub writes : (component : JType) (array : SymValue) (place : ℕ) (value : SymValue) → slice_get values 0 ≡ Some value → P (store_kept state array place (kept_in component value state))
     pub term : (z : ℤ) (count : ℕ) → P (pushes_term state (drop count stack) (interned state.nodes (Const z)))
     pub makes : (component : JType) (count : ℕ) → choice ≡ Size count → P (record { state = with_array state component count; way = with_stack state (New (length state.made) ∷ drop 1 stack) })
 
@@ -66,28 +71,28 @@ module _ (P : Planned → Type 0) (world : World) (state : State) (choice : Choi
     load_from_has elem (Loc number) = load_there_has elem (Loc number)
 
     pub loads_has : (elem : Elem) → P (loads_element state elem)
-    loads_has elem = planned_has (an_element stack) (λ (t : SymValue × TermId). load_from state elem t.0) (λ t e. load_from_has elem t.0)
+    loads_has elem = planned_has (an_element values) (λ (t : SymValue × TermId). load_from state elem t.0) (λ t e. load_from_has elem t.0)
 
     -- ---- stores
 
-    store_at_has : (component : JType) (array : SymValue) (place : ℕ) (value : SymValue) → slice_get stack 0 ≡ Some value → P (store_at world state component array place value)
+    store_at_has : (component : JType) (array : SymValue) (place : ℕ) (value : SymValue) → slice_get values 0 ≡ Some value → P (store_at world state component array place value)
     store_at_has component array place value e =
         if_has P (has_room world (method_now state.method state.stage) (length (drop 3 stack))) (planned state (kept component value state) (store_kept state array place)) (plain state Fails)
         (only_has P (is_of_kind component value) (kept_in component value state) (store_kept state array place) (plain state Fails) (h.writes component array place value e) h.fails) h.fails
 
-    store_chosen_has : (component : JType) (array : SymValue) (chosen : Option ℕ) (value : SymValue) → slice_get stack 0 ≡ Some value → P (store_chosen world state component array chosen value)
+    store_chosen_has : (component : JType) (array : SymValue) (chosen : Option ℕ) (value : SymValue) → slice_get values 0 ≡ Some value → P (store_chosen world state component array chosen value)
     store_chosen_has component array None value e = h.throws index_outside
     store_chosen_has component array (Some place) value e =
         if_has P (takes_object world state component value) (store_at world state component array place value) (plain state (Throws array_store)) (store_at_has component array place value e)
         (h.throws array_store)
 
-    store_there_has : (elem : Elem) (array value : SymValue) → slice_get stack 0 ≡ Some value
+    store_there_has : (elem : Elem) (array value : SymValue) → slice_get values 0 ≡ Some value
         → P (planned state (array_of state (takes_component elem) array) (λ (it : Array). store_chosen world state it.component array state.chosen value))
     store_there_has elem array value e =
         planned_has (array_of state (takes_component elem) array) (λ (it : Array). store_chosen world state it.component array state.chosen value)
         (λ it f. store_chosen_has it.component array state.chosen value e)
 
-    store_in_has : (elem : Elem) (array value : SymValue) → slice_get stack 0 ≡ Some value → P (store_in world state elem array value)
+    store_in_has : (elem : Elem) (array value : SymValue) → slice_get values 0 ≡ Some value → P (store_in world state elem array value)
     store_in_has elem Null value e = h.throws null_pointer
     store_in_has elem (Int term) value e = store_there_has elem (Int term) value e
     store_in_has elem (Obj number) value e = store_there_has elem (Obj number) value e
@@ -97,8 +102,8 @@ module _ (P : Planned → Type 0) (world : World) (state : State) (choice : Choi
 
     pub stores_has : (elem : Elem) → P (stores_element world state elem)
     stores_has elem =
-        planned_has (an_element_and_value elem stack) (λ (t : SymValue × TermId × SymValue). store_in world state elem t.0 t.2)
-        (λ t e. store_in_has elem t.0 t.2 (elem_is elem (slice_get stack 0) t.2 (three_parts elem stack t e).value))
+        planned_has (an_element_and_value elem values) (λ (t : SymValue × TermId × SymValue). store_in world state elem t.0 t.2)
+        (λ t e. store_in_has elem t.0 t.2 (elem_is elem (slice_get values 0) t.2 (three_parts elem values t e).value))
 
     -- ---- lengths and new arrays
 
@@ -114,7 +119,7 @@ module _ (P : Planned → Type 0) (world : World) (state : State) (choice : Choi
     length_has (Loc number) = length_there_has (Loc number)
 
     pub tells_has : P (tells_length state)
-    tells_has = planned_has (a_reference stack) (tells_length_of state) (λ array e. length_has array)
+    tells_has = planned_has (a_reference values) (tells_length_of state) (λ array e. length_has array)
 
     sized_has : (component : JType) (count : ℕ) → choice ≡ Size count → P (makes_sized world state component count)
     sized_has component count is =

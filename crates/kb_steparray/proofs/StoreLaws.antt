@@ -1,6 +1,6 @@
 -- A store makes of a state what it makes of the configuration: the element holds the value afterwards, in the state and in the
 -- heap. So a step of it goes where the machine's step goes.
-use Rattle.std.proofs.Common.{◌≡◌, ℕ, ◌<◌, ℤ, pos, negsuc, Bool, true, false, List, [], ◌∷◌, length, drop, nat_lt, slice_get, Option, Some, None, refl, ap, subst, ◌∙◌, if◌then◌else◌, ltb-true}
+use Rattle.std.proofs.Common.{◌≡◌, ℕ, ◌<◌, ℤ, pos, negsuc, Bool, true, false, List, [], ◌∷◌, length, drop, nat_lt, slice_get, Option, Some, None, refl, sym, ap, subst, ◌∙◌, if◌then◌else◌, ltb-true}
 use Rattle.std.specs.Option.{option_map, option_map_or, option_and_then}
 use Rattle.kb_code.specs.declared.instruction.Elem.{Elem}
 use Rattle.kb_code.specs.declared.instruction.Elem.TheVariants as elems
@@ -33,11 +33,12 @@ use Rattle.kb_frames.specs.State.{State}
 use Rattle.kb_frames.specs.States.{IsSymValue}
 use Rattle.kb_ways.specs.Kept.{is_of_kind}
 use Rattle.kb_ways.specs.Operands.{reference}
-use Rattle.kb_ways.specs.Plans.{followed, plain, planned}
+use Rattle.kb_ways.specs.Plans.{Planned, followed, plain, planned}
 use Rattle.kb_ways.specs.Types.{is_object_of}
 use Rattle.kb_ways.specs.Ways.{Take, Throws, ill_typed}
 use Rattle.kb_ways.proofs.ObjectLaws.{is_typed}
 use Rattle.kb_ways.proofs.OutcomeWays.{ill_typed_is, throws_is}
+use Rattle.kb_ways.proofs.KnownLaws.{stack_without}
 use Rattle.kb_ways.proofs.PlannedLaws.{Follows, Situation, reference_there, state_of}
 use Rattle.kb_ways.proofs.PutLaws.{HasSlot, puts_follow}
 use Rattle.kb_ways.proofs.ReferenceLaws.{IsReference, kept_of, referred, value_kept}
@@ -269,11 +270,20 @@ module _ (world : World) (bounds : Bounds) (at : Situation world bounds) (bounde
   taken_is : (elem : Elem) → machine_store elem c.frame.stack ≡ option_map (store_of r at.frame.stack) (an_element_and_value elem at.frame.stack)
   taken_is elem = ap (machine_store elem) at.stands.stage.0.stack ∙ store_is r elem at.frame.stack
 
-  -- Where the place is told, a store leads the state where it leads the machine.
-  pub stores_element_follow : (elem : Elem) → ((t : SymValue × TermId × SymValue) → an_element_and_value elem at.frame.stack ≡ Some t → TellsAll elem t.0 (int_value r t.1))
-      → stores s c ≡ stored_by (instrs.StoreElem elem) s c → step s c ≡ store_element elem s next c → FollowsTo (followed world bounds next (stores_element world state elem))
+  -- by the operands of a stack
+  abbrev stores_on : Elem → List SymValue → Planned
+  stores_on elem stack = planned state (an_element_and_value elem stack) (λ (t : SymValue × TermId × SymValue). store_in world state elem t.0 t.2)
+
+  stores_on_follow : (elem : Elem) → ((t : SymValue × TermId × SymValue) → an_element_and_value elem at.frame.stack ≡ Some t → TellsAll elem t.0 (int_value r t.1))
+      → stores s c ≡ stored_by (instrs.StoreElem elem) s c → step s c ≡ store_element elem s next c → FollowsTo (followed world bounds next (stores_on elem at.frame.stack))
   unfolding store_element
-  stores_element_follow elem told stored e =
+  stores_on_follow elem told stored e =
       by_taken elem (an_element_and_value elem at.frame.stack) refl told
       (stored ∙ ap (λ (it : Option (Taken ((Reference × ℤ) × Value))). if_some it (writes_all elem)) (taken_is elem))
       (e ∙ ap (λ (it : Option (Taken ((Reference × ℤ) × Value))). with s c it (does_all elem)) (taken_is elem))
+
+  -- Where the place is told, a store leads the state where it leads the machine.
+  pub stores_element_follow : (elem : Elem) → ((t : SymValue × TermId × SymValue) → an_element_and_value elem at.frame.stack ≡ Some t → TellsAll elem t.0 (int_value r t.1))
+      → stores s c ≡ stored_by (instrs.StoreElem elem) s c → step s c ≡ store_element elem s next c → FollowsTo (followed world bounds next (stores_element world state elem))
+  stores_element_follow elem told stored e =
+      subst (λ (stack : List SymValue). FollowsTo (followed world bounds next (stores_on elem stack))) (sym (stack_without state at.known)) (stores_on_follow elem told stored e)

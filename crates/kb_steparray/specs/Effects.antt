@@ -1,7 +1,8 @@
 -- What the instructions on arrays do to a state: what they write, and the way on. Each is the counterpart of the machine's effect
 -- of the same instruction (JVMS 8 section 6.5), with symbolic values in the place of values, and in its order of tests: the
 -- operands' kinds, an array that is null, one that the instruction does not take, the index, of aastore the exact component. The
--- place of an index, what an element of the picture holds, and the length of a new array were told before.
+-- place of an index, what an element of the picture holds, and the length of a new array were told before; the array and the value
+-- that is stored are taken as they are known.
 use Rattle.std.specs.Prelude.{ℕ, suc, pos, ◌∷◌, length, drop, Option, Some, None, if◌then◌else◌}
 use Rattle.kb_code.specs.declared.instruction.Elem.{Elem}
 use Rattle.kb_classes.specs.World.{World}
@@ -22,6 +23,7 @@ use Rattle.kb_frames.specs.Making.{with_array}
 use Rattle.kb_frames.specs.Next.{method_now}
 use Rattle.kb_frames.specs.State.{State}
 use Rattle.kb_ways.specs.Kept.{kept}
+use Rattle.kb_ways.specs.Known.{known_stack}
 use Rattle.kb_ways.specs.Operands.{a_reference, an_int}
 use Rattle.kb_ways.specs.Plans.{Planned, plain, planned, pushes_term}
 use Rattle.kb_ways.specs.Slots.{held_in, put_in}
@@ -46,7 +48,7 @@ load_from state elem array = planned state (array_of state (takes_component elem
 
 -- iaload, aaload, baload: a boolean is read as it is
 abbrev pub loads_element : State → Elem → Planned
-loads_element state elem = planned state (an_element (stack_of state.stage)) (λ (t : SymValue × TermId). load_from state elem t.0)
+loads_element state elem = planned state (an_element (known_stack state)) (λ (t : SymValue × TermId). load_from state elem t.0)
 
 -- ---- stores
 
@@ -73,7 +75,7 @@ store_in world state elem array value = planned state (array_of state (takes_com
 -- iastore, aastore, bastore: a boolean keeps the low bit
 abbrev pub stores_element : World → State → Elem → Planned
 stores_element world state elem =
-    planned state (an_element_and_value elem (stack_of state.stage)) (λ (t : SymValue × TermId × SymValue). store_in world state elem t.0 t.2)
+    planned state (an_element_and_value elem (known_stack state)) (λ (t : SymValue × TermId × SymValue). store_in world state elem t.0 t.2)
 
 -- ---- lengths
 
@@ -84,7 +86,7 @@ tells_length_of state array = planned state (length_of state array) (λ count. p
 
 -- arraylength
 abbrev pub tells_length : State → Planned
-tells_length state = planned state (a_reference (stack_of state.stage)) (tells_length_of state)
+tells_length state = planned state (a_reference (known_stack state)) (tells_length_of state)
 
 -- ---- new arrays
 

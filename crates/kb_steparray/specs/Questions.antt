@@ -19,6 +19,7 @@ use Rattle.kb_frames.specs.declared.value.SymValue.TheVariants.{Int, Null, Obj, 
 use Rattle.kb_frames.specs.Heaps.{find_cell}
 use Rattle.kb_frames.specs.Lent.{stack_of}
 use Rattle.kb_frames.specs.State.{State}
+use Rattle.kb_ways.specs.Known.{known_stack}
 use Rattle.kb_ways.specs.Operands.{an_int}
 use Rattle.kb_ways.specs.Plans.{here}
 use Rattle.kb_ways.specs.Slots.{first_ask}
@@ -67,8 +68,8 @@ asks_length state most typed = if typed then option_map (λ length. questions.Le
 
 -- What an instruction asks in a state: one that is no instruction on arrays asks nothing here.
 abbrev pub asks : Bounds → World → State → Instr → Option Question
-asks bounds world state (instrs.LoadElem elem) = asks_load state elem (an_element (stack_of state.stage))
-asks bounds world state (instrs.StoreElem elem) = asks_store state elem (an_element_and_value elem (stack_of state.stage))
+asks bounds world state (instrs.LoadElem elem) = asks_load state elem (an_element (known_stack state))
+asks bounds world state (instrs.StoreElem elem) = asks_store state elem (an_element_and_value elem (known_stack state))
 asks bounds world state (instrs.NewPrim code) = asks_length state bounds.run.alloc (is_some (component_of_code code))
 asks bounds world state (instrs.NewRefs entry) = asks_length state bounds.run.alloc (is_some (component_of_entry world (here world state) entry))
 asks bounds world state _ = None

@@ -11,7 +11,7 @@ use crate::lengths::length_of;
 use crate::operands::an_element;
 use kb_code::Elem;
 use kb_frames::{Outcome, SymState, SymValue};
-use kb_ways::{Turn, a_reference, held_in, ill_typed, push_number, replaces, throws};
+use kb_ways::{Turn, a_known_reference, held_in, ill_typed, push_number, replaces, throws};
 
 pub(crate) const NULL_POINTER: &[u8] = b"java/lang/NullPointerException";
 
@@ -79,7 +79,7 @@ pub fn array_length(turn: &Turn<'_>, state: &mut SymState) -> Result<Outcome, No
     requires counts { HasCounts state.old }
     ensures { IfOk result (λ outcome. told state.new outcome ≡ led_by turn.now (tells_length state.old)) }
 {
-    match a_reference(state) {
+    match a_known_reference(state) {
         Some(array) => tell_length(turn, state, array),
         None => ill_typed(turn, state),
     }

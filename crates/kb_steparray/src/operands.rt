@@ -1,19 +1,20 @@
-//! What array instructions take from the operand stack of a state (JVMS 8 section 6.5). Nothing is taken off it here.
+//! What array instructions take from the operand stack of a state, each value as it is known (JVMS 8 section 6.5). Nothing is
+//! taken off it here.
 ghost use Rattle.std.specs.Prelude.{◌≡◌};
-ghost use Rattle.kb_frames.specs.Lent.{stack_of};
+ghost use Rattle.kb_ways.specs.Known.{known_stack};
 ghost use Rattle.kb_steparray.specs.Operands.{an_element, an_element_and_value, of_elem};
 
 use kb_code::Elem;
 use kb_frames::{SymState, SymValue};
 use kb_terms::TermId;
-use kb_ways::{int_term, reference};
+use kb_ways::{int_term, known_at, reference};
 
 /// An array and an index.
 pub(crate) fn an_element(state: &SymState) -> Option<(SymValue, TermId)>
-    ensures { result ≡ an_element (stack_of state.now.stage) }
+    ensures { result ≡ an_element (known_stack state.now) }
 {
-    let index = int_term(state.value_at(0))?;
-    let array = reference(state.value_at(1))?;
+    let index = int_term(known_at(state, 0))?;
+    let array = reference(known_at(state, 1))?;
     Some((array, index))
 }
 
@@ -22,11 +23,11 @@ pub(crate) fn an_element_and_value(
     state: &SymState,
     elem: Elem,
 ) -> Option<(SymValue, TermId, SymValue)>
-    ensures { result ≡ an_element_and_value elem (stack_of state.now.stage) }
+    ensures { result ≡ an_element_and_value elem (known_stack state.now) }
 {
-    let value = of_elem(elem, state.value_at(0))?;
-    let index = int_term(state.value_at(1))?;
-    let array = reference(state.value_at(2))?;
+    let value = of_elem(elem, known_at(state, 0))?;
+    let index = int_term(known_at(state, 1))?;
+    let array = reference(known_at(state, 2))?;
     Some((array, index, value))
 }
 

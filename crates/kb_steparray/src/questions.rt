@@ -1,7 +1,7 @@
 //! What an array instruction must be told before it is carried out.
 ghost use Rattle.std.specs.Prelude.{◌≡◌, ◌<◌, ◌^◌, is_some, IfOk};
-ghost use Rattle.kb_frames.specs.Lent.{stack_of};
 ghost use Rattle.kb_semantics.specs.Instructions.{component_of_entry};
+ghost use Rattle.kb_ways.specs.Known.{known_stack};
 ghost use Rattle.kb_ways.specs.Plans.{here};
 ghost use Rattle.kb_ways.specs.declared.question.Question.TheVariants as questions;
 ghost use Rattle.kb_steparray.specs.Arrays.{HasCounts};
@@ -57,7 +57,7 @@ fn is_type(world: &World, state: &SymState, entry: u16) -> bool
 #[tactic(auto, using(crate::proofs::CountLaws::array_counted))]
 fn asks_load(alloc: Global, state: &SymState, elem: Elem) -> Result<Option<Question>, NoMemory>
     requires { HasCounts state.now }
-    ensures { IfOk result (λ asked. asked ≡ asks_load state.now elem (an_element (stack_of state.now.stage))) }
+    ensures { IfOk result (λ asked. asked ≡ asks_load state.now elem (an_element (known_stack state.now))) }
 {
     let Some((array, index)) = an_element(state) else {
         return Ok(None);
@@ -96,7 +96,7 @@ fn asks_element(
 #[tactic(auto, using(crate::proofs::CountLaws::array_counted))]
 fn asks_store(state: &SymState, elem: Elem) -> Option<Question>
     requires { HasCounts state.now }
-    ensures { result ≡ asks_store state.now elem (an_element_and_value elem (stack_of state.now.stage)) }
+    ensures { result ≡ asks_store state.now elem (an_element_and_value elem (known_stack state.now)) }
 {
     let (array, index, _) = an_element_and_value(state, elem)?;
     let found = array_of(state, elem, array)?;
