@@ -12,3 +12,4 @@ pub mod StoreSteps
 pub mod ChoosingLaws
 pub mod HeldLaws
 pub mod OfferLaws
+pub mod LookedLaws

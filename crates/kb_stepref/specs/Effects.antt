@@ -1,6 +1,7 @@
 -- What the instructions on references do to a state: what they write, and the way on. Each is the counterpart of the machine's
 -- effect of the same instruction (JVMS 8 section 6.5), with symbolic values in the place of values. What a field of an object
--- of the picture holds was told before, where it is read.
+-- of the picture holds was told before, where it is read; so was which object a location is that the instruction looks into, and
+-- what it looks into is taken as it is known.
 use Rattle.std.specs.Prelude.{ℕ, Bool, List, ◌∷◌, length, drop, nat_lt, Option, Some, None, cond, slice_set, if◌then◌else◌}
 use Rattle.kb_code.specs.declared.instruction.Instr.{Instr}
 use Rattle.kb_code.specs.declared.instruction.Instr.TheVariants as instrs
@@ -23,6 +24,7 @@ use Rattle.kb_ways.specs.Ways.{with_stack, ObjectThere, OfPicture, OfRun, Way, G
 use Rattle.kb_stepref.specs.Fields.{field_named, has_place, held}
 use Rattle.kb_ways.specs.Slots.{put_in}
 use Rattle.kb_ways.specs.Identity.{same}
+use Rattle.kb_ways.specs.Known.{known_stack}
 use Rattle.kb_stepref.specs.Comparing.{is_null}
 use Rattle.kb_ways.specs.Operands.{an_object_and_value, a_reference, reference, two_references}
 use Rattle.kb_ways.specs.Plans.{Planned, here, plain, planned, returns_value}
@@ -65,7 +67,7 @@ branch_where state so target count = if so then Jumps target (drop count (stack_
 
 -- if_acmpeq, if_acmpne
 abbrev pub branches_same : State → Bool → ℕ → Planned
-branches_same state want target = planned state (two_references (stack_of state.stage)) (λ t. plain state (branch_where state (is_wanted want (same t.0 t.1)) target 2))
+branches_same state want target = planned state (two_references (known_stack state)) (λ t. planned state (same t.0 t.1) (λ so. plain state (branch_where state (is_wanted want so) target 2)))
 
 -- ifnull, ifnonnull
 abbrev pub branches_null : State → Bool → ℕ → Planned
@@ -96,7 +98,7 @@ throws_reference world state value = planned state (exact_type_of state value) (
 
 -- athrow: what is no reference is ill-typed before null is looked at
 abbrev pub throws_top : World → State → Planned
-throws_top world state = planned state (a_reference (stack_of state.stage)) (throws_reference world state)
+throws_top world state = planned state (a_reference (known_stack state)) (throws_reference world state)
 
 -- ---- getfield
 
@@ -111,7 +113,7 @@ got world state field value = reads state (held world state field value)
 
 -- getfield: what is no reference is ill-typed before null is looked at
 abbrev pub gets : World → State → ℕ → Planned
-gets world state entry = planned state (field_named world state entry) (λ field. planned state (a_reference (stack_of state.stage)) (got world state field))
+gets world state entry = planned state (field_named world state entry) (λ field. planned state (a_reference (known_stack state)) (got world state field))
 
 -- ---- putfield
 
@@ -138,7 +140,7 @@ put world state field object value = if has_place world state field object then 
 abbrev pub puts : World → State → ℕ → Planned
 puts world state entry =
     planned state (field_named world state entry) (λ field.
-    planned state (an_object_and_value field.kind (stack_of state.stage)) (λ t. put world state field t.0 t.1))
+    planned state (an_object_and_value field.kind (known_stack state)) (λ t. put world state field t.0 t.1))
 
 -- ---- the instructions
 

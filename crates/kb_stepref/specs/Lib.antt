@@ -1,5 +1,6 @@
 pub mod Comparing
 pub mod Fields
+pub mod Looked
 pub mod Questions
 pub mod Looks
 pub mod Choices

@@ -13,13 +13,13 @@ use Rattle.kb_picture.specs.WellTyped.{is_reference_type}
 use Rattle.kb_frames.specs.declared.value.Outcome.TheVariants.{Asks}
 use Rattle.kb_frames.specs.declared.value.SymValue.TheVariants.{Obj}
 use Rattle.kb_frames.specs.Heaps.{find_cell}
-use Rattle.kb_frames.specs.Lent.{stack_of}
 use Rattle.kb_frames.specs.State.{State}
 use Rattle.kb_ways.specs.declared.question.Question.{Question}
 use Rattle.kb_ways.specs.declared.question.Question.TheVariants.{Reads}
 use Rattle.kb_ways.specs.declared.question.Question.TheVariants as questions
 use Rattle.kb_ways.specs.Questions.{Asking, answered}
 use Rattle.kb_ways.specs.declared.turn.Turn.{Turn}
+use Rattle.kb_ways.specs.Known.{known_stack}
 use Rattle.kb_ways.specs.Needs.{HasTerms, IsFor, IsTurnAt}
 use Rattle.kb_ways.specs.Plans.{taken_up}
 use Rattle.kb_ways.specs.Turns.{found_of, led_by, told}
@@ -31,12 +31,12 @@ use Rattle.kb_stepref.specs.Effects.{plan_of}
 use Rattle.kb_stepref.specs.Fields.{field_named, has_slot_of}
 use Rattle.kb_stepref.specs.Questions.{asked_by, asks_cell, asks_read, question_of}
 
--- The instruction is a getfield of that field, and the object, which has it, is on the top of the stack.
+-- The instruction is a getfield of that field, and the object, which has it, is known to be on the top of the stack.
 pub record IsReadBy (world : World) (state : State) (instr : Instr) (at : FieldAt) : Type 0 where
   pub entry : ℕ
   pub instr_is : instr ≡ instrs.GetField entry
   pub named : field_named world state entry ≡ Some at.field.now
-  pub top : slice_get (stack_of state.stage) 0 ≡ Some (Obj at.object)
+  pub top : slice_get (known_stack state) 0 ≡ Some (Obj at.object)
   pub has_it : has_slot_of world state at.field.now (Obj at.object) ≡ true
 
 -- so it is by the instruction of a turn, where there is one
@@ -70,22 +70,29 @@ abbrev pub behind : Option Turn → State → Take
 behind None state = told state Asks
 behind (Some turn) state = carries turn Only state
 
--- What comes behind a place: an int element is read, and the instruction is carried out; a reference is chosen next.
+-- What comes behind an object or a place: an int that is read for the first time chooses nothing, and the instruction is carried
+-- out; all else is chosen next.
 abbrev pub behind_chosen : Turn → Choice → State → Option Question → Take
 behind_chosen turn choice state None = carries turn choice state
 behind_chosen turn choice state (Some (Reads slot type)) =
     if is_reference_type type then told state Asks else carries turn choice (answered turn.world.now choice state (Reads slot type))
+behind_chosen turn choice state (Some (questions.Accesses number)) = told state Asks
 behind_chosen turn choice state (Some (questions.Index x count)) = told state Asks
 behind_chosen turn choice state (Some (questions.Length x most)) = told state Asks
 
--- What comes behind an index or a length, by what the instruction asks in a state.
+-- by what the instruction asks in a state
+abbrev pub behind_object : Asking → Turn → Choice → State → Take
+behind_object asking turn choice state = behind_chosen turn choice state (asking turn.world.now state turn.instr.now)
+
+-- What comes behind an index or a length.
 abbrev pub behind_choice : Asking → Turn → Choice → State → Take
-behind_choice asking turn (Index place) state = behind_chosen turn (Index place) state (asking turn.world.now state turn.instr.now)
+behind_choice asking turn (Index place) state = behind_object asking turn (Index place) state
 behind_choice asking turn choice state = carries turn choice state
 
 -- the int that is asked about is a term of the pool, and an int counts the elements of the array
 abbrev pub HasIntOf : List Node → Question → Type 0
 HasIntOf nodes (Reads slot type) = Unit {0}
+HasIntOf nodes (questions.Accesses number) = Unit {0}
 HasIntOf nodes (questions.Index x count) = IsTerm nodes x × (count < 2 ^ 31)
 HasIntOf nodes (questions.Length x most) = IsTerm nodes x
 

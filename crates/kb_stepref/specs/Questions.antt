@@ -1,6 +1,8 @@
 -- What a step on references must be told before it can be carried out: what a slot holds that is read for the first time, an
--- argument, a field or an element (lazy initialisation: Khurshid, Păsăreanu and Visser, TACAS 2003), and of an array its index or
--- its length. That a run begins by reading its arguments is an own rule.
+-- argument, a field or an element (lazy initialisation: Khurshid, Păsăreanu and Visser, TACAS 2003), which object a location is
+-- that the instruction looks into (Deng, Lee and Robby, ASE 2006), and of an array its index or its length. Where an instruction
+-- looks into several, they come in the order of its list, each as soon as it stands there, and before what else must be told. That
+-- a run begins by reading its arguments is an own rule.
 use Rattle.std.specs.Prelude.{ℕ, Bool, true, false, nat_le, Option, Some, None, option_and_then, slice_get, if◌then◌else◌}
 use Rattle.std.specs.Option.{option_map_or}
 use Rattle.kb_code.specs.declared.instruction.Instr.{Instr}
@@ -14,15 +16,18 @@ use Rattle.kb_picture.specs.WellTyped.{is_reference_type}
 use Rattle.kb_frames.specs.declared.value.Cell.{Cell}
 use Rattle.kb_frames.specs.declared.value.SymValue.{SymValue}
 use Rattle.kb_frames.specs.declared.value.SymValue.TheVariants.{Int, Null, Obj, Literal, New, Loc}
-use Rattle.kb_frames.specs.Lent.{read_count, stack_of}
+use Rattle.kb_frames.specs.Lent.{read_count}
 use Rattle.kb_frames.specs.Next.{argument_next, instruction_next}
 use Rattle.kb_frames.specs.State.{State}
+use Rattle.kb_ways.specs.Known.{known_stack}
+use Rattle.kb_ways.specs.Looked.{asks_looked}
 use Rattle.kb_ways.specs.Slots.{first_ask}
 use Rattle.kb_ways.specs.declared.question.Question.{Question}
 use Rattle.kb_ways.specs.declared.question.Question.TheVariants.{Reads}
 use Rattle.kb_ways.specs.declared.question.Question.TheVariants as questions
 use Rattle.kb_steparray.specs.Questions.{asks}
 use Rattle.kb_stepref.specs.Fields.{cell_of, field_named}
+use Rattle.kb_stepref.specs.Looked.{looked_by}
 
 -- a field of an object of the picture is read for the first time, where nobody has read or written it
 abbrev pub asks_cell : ℕ → FieldSlot → Option Cell → Option Question
@@ -39,13 +44,17 @@ asks_field world state field None = None
 
 -- what a getfield asks in a state
 abbrev pub asks_read : World → State → Instr → Option Question
-asks_read world state (instrs.GetField entry) = option_and_then (λ field. asks_field world state field (slice_get (stack_of state.stage) 0)) (field_named world state entry)
+asks_read world state (instrs.GetField entry) = option_and_then (λ field. asks_field world state field (slice_get (known_stack state) 0)) (field_named world state entry)
 asks_read world state _ = None
 
--- what an instruction asks: those on arrays have their own questions
+-- what an instruction asks beside what it looks into: those on arrays have their own questions
+abbrev pub asked_beside : Bounds → World → State → Instr → Option Question
+asked_beside bounds world state (instrs.GetField entry) = asks_read world state (instrs.GetField entry)
+asked_beside bounds world state instr = asks bounds world state instr
+
+-- What an instruction asks: the first open location of those that it looks into, and where there is none the rest.
 abbrev pub asked_by : Bounds → World → State → Instr → Option Question
-asked_by bounds world state (instrs.GetField entry) = asks_read world state (instrs.GetField entry)
-asked_by bounds world state instr = asks bounds world state instr
+asked_by bounds world state instr = asks_looked (looked_by world state instr) (asked_beside bounds world state instr)
 
 -- where as many instructions were carried out as may be, none is taken up
 abbrev pub asked_at : World → State → Bounds → Option Question
@@ -61,10 +70,11 @@ argument_or world state asks =
 abbrev pub question_of : World → State → Bounds → Option Question
 question_of world state bounds = argument_or world state (asked_at world state bounds)
 
--- something is chosen where a reference is read for the first time, of an index and of a length: an int or a boolean that is read
--- for the first time is a new variable
+-- something is chosen where a reference is read for the first time, of a location, of an index and of a length: an int or a
+-- boolean that is read for the first time is a new variable
 abbrev pub is_choice : Option Question → Bool
 is_choice None = false
 is_choice (Some (Reads slot type)) = is_reference_type type
+is_choice (Some (questions.Accesses number)) = true
 is_choice (Some (questions.Index x count)) = true
 is_choice (Some (questions.Length x most)) = true

@@ -1,5 +1,6 @@
 -- What checkcast and instanceof do to a state, and ldc of a string: each the counterpart of the machine's effect of the same
--- instruction (JVMS 8 section 6.5), with symbolic values in the place of values. Each object is known, so nothing is chosen.
+-- instruction (JVMS 8 section 6.5), with symbolic values in the place of values. Which object a location is that is looked into was
+-- told before.
 use Rattle.std.specs.Prelude.{ℕ, Bool, true, false, ◌∷◌, drop, if◌then◌else◌}
 use Rattle.kb_arith.specs.Word.{truth}
 use Rattle.kb_names.specs.declared.types.ExactType.{ExactType}
@@ -12,6 +13,7 @@ use Rattle.kb_frames.specs.declared.value.SymValue.{SymValue}
 use Rattle.kb_frames.specs.declared.value.SymValue.TheVariants.{Null, Literal}
 use Rattle.kb_frames.specs.Lent.{stack_of}
 use Rattle.kb_frames.specs.State.{State}
+use Rattle.kb_ways.specs.Known.{known_stack}
 use Rattle.kb_ways.specs.Operands.{a_reference}
 use Rattle.kb_ways.specs.Plans.{Planned, here, plain, planned, pushes_term}
 use Rattle.kb_ways.specs.Types.{is_object_of}
@@ -30,7 +32,7 @@ casts_to world state type value = plain state (if is_instance world state type t
 
 -- checkcast: what is no reference is ill-typed
 abbrev pub casts : World → State → ℕ → Planned
-casts world state entry = planned state (type_entry_of world (here world state) entry) (λ type. planned state (a_reference (stack_of state.stage)) (casts_to world state type))
+casts world state entry = planned state (type_entry_of world (here world state) entry) (λ type. planned state (a_reference (known_stack state)) (casts_to world state type))
 
 -- the term of 1 or 0 stands in the place of the reference
 abbrev pub tells : World → State → ExactType → SymValue → Planned
@@ -38,7 +40,7 @@ tells world state type value = pushes_term state (drop 1 (stack_of state.stage))
 
 -- instanceof
 abbrev pub tells_type : World → State → ℕ → Planned
-tells_type world state entry = planned state (type_entry_of world (here world state) entry) (λ type. planned state (a_reference (stack_of state.stage)) (tells world state type))
+tells_type world state entry = planned state (type_entry_of world (here world state) entry) (λ type. planned state (a_reference (known_stack state)) (tells world state type))
 
 -- ---- literals
 

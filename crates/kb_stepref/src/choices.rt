@@ -8,14 +8,15 @@ ghost use Rattle.kb_stepref.specs.Looks.{HasIntOf};
 ghost use Rattle.kb_terms.specs.Terms.{IsTerm};
 ghost use Rattle.kb_ways.specs.Advancing.{only};
 ghost use Rattle.kb_ways.specs.Choosing.{length_choices, length_conditions, not_refuted};
-ghost use Rattle.kb_ways.specs.declared.question.Question.TheVariants.{Reads};
+ghost use Rattle.kb_ways.specs.declared.question.Question.TheVariants.{Accesses, Reads};
 
 use crate::NoMemory;
+use crate::declared::declared_type;
 use crate::look::look_at;
 use kb_class::{MethodId, is_static};
 use kb_frames::{SymState, is_reference};
 use kb_heap::Bounds;
-use kb_lazy::read_choices;
+use kb_lazy::{read_choices, resolve_choices};
 use kb_names::JType;
 use kb_picture::{Choice, Origin};
 use kb_semantics::World;
@@ -25,14 +26,15 @@ use kb_ways::{Question, only_way_on};
 use std::alloc::Global;
 
 /// The alternatives of the next step of a state, in their order. Of a reference that is read for the first time they are null,
-/// but not for a receiver, the objects that the picture has, and new ones; of an index the places of its array, and outside; of
+/// but not for a receiver, the objects that the picture has, and new ones, or null and some object; of a location that is looked
+/// into the objects that the picture has, and new ones; of an index the places of its array, and outside; of
 /// the length of a new array negative, each one up to the bound, and above it; of every other step the only way on. One with a
 /// condition that is decided as false is left out.
 ///
 /// The state is one to which `start` and later calls lead in this world under lazy initialisation, and whose next step is one on
 /// references that is built. It takes time in proportion to the objects of the picture, the universe and the list that it gives.
 ///
-/// Source: Khurshid, Păsăreanu and Visser (TACAS 2003).
+/// Source: Khurshid, Păsăreanu and Visser (TACAS 2003); Deng, Lee and Robby (ASE 2006).
 pub fn choices_ref(
     alloc: Global,
     world: &World,
@@ -76,6 +78,7 @@ fn alternatives(
 {
     match question {
         Question::Reads(slot, kind) => read_alternatives(alloc, world, state, bounds, *slot, kind),
+        Question::Accesses(location) => objects(alloc, world, state, bounds, *location),
         Question::Index(x, count) => index_alternatives(alloc, state, *x, *count),
         Question::Length(x, most) => lengths(alloc, state, *x, *most),
     }
@@ -90,6 +93,31 @@ fn lengths(alloc: Global, state: &SymState, x: TermId, most: u32) -> Result<Vec<
         Ok(_) => length_alternatives(alloc, state, x, most),
         Err(_) => Err(NoMemory),
     }
+}
+
+// The alternatives of a location that is looked into.
+fn objects(
+    alloc: Global,
+    world: &World,
+    state: &SymState,
+    bounds: &Bounds,
+    location: u32,
+) -> Result<Vec<Choice>, NoMemory>
+    ensures { IfOk result (λ choices. choices.items ≡ alternatives world.now state.now bounds.now (Accesses location)) }
+{
+    let Some(kind) = declared_type(alloc, world, state, location)? else {
+        return Ok(Vec::new(alloc));
+    };
+    let choices = resolve_choices(
+        alloc,
+        world,
+        state.picture(),
+        location,
+        &kind,
+        bounds.k,
+        bounds.array,
+    )?;
+    Ok(choices)
 }
 
 // The alternatives of a slot that is read for the first time.

@@ -1,8 +1,8 @@
-//! Branches on references (JVMS 8 section 6.5). Under lazy initialisation each reference is null or a known object, so nothing
-//! is chosen.
+//! Branches on references (JVMS 8 section 6.5). Which object a location is that is compared was told before.
 ghost use Rattle.std.specs.Prelude.{◌≡◌, IfOk};
 ghost use Rattle.kb_semantics.specs.Instructions.{is_wanted};
 ghost use Rattle.kb_ways.specs.Needs.{IsFor};
+ghost use Rattle.kb_ways.specs.Plans.{plain, planned};
 ghost use Rattle.kb_ways.specs.Turns.{led, told, led_by};
 ghost use Rattle.kb_stepref.specs.Comparing.{is_null};
 ghost use Rattle.kb_stepref.specs.Effects.{branch_where, branches_null, branches_same};
@@ -22,7 +22,24 @@ pub(crate) fn if_same(
     ensures { IfOk result (λ outcome. told state.new outcome ≡ led_by turn.now (branches_same state.old want target)) }
 {
     match two_references(state) {
-        Some((left, right)) => branch(turn, state, is_wanted(want, same(left, right)), target, 2),
+        Some((left, right)) => if_told(turn, state, want, target, same(left, right)),
+        None => ill_typed(turn, state),
+    }
+}
+
+// By whether they are one.
+fn if_told(
+    turn: &Turn<'_>,
+    state: &mut SymState,
+    want: bool,
+    target: u32,
+    so: Option<bool>,
+) -> Result<Outcome, NoMemory>
+    requires { IsFor turn.now state.old }
+    ensures { IfOk result (λ outcome. told state.new outcome ≡ led_by turn.now (planned state.old so (λ b. plain state.old (branch_where state.old (is_wanted want b) target 2)))) }
+{
+    match so {
+        Some(so) => branch(turn, state, is_wanted(want, so), target, 2),
         None => ill_typed(turn, state),
     }
 }

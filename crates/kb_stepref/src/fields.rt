@@ -20,8 +20,8 @@ use kb_frames::{Cell, Outcome, SymState, SymValue};
 use kb_lookups::{declaring_class, has_field};
 use kb_semantics::{FieldSlot, World};
 use kb_ways::{
-    Turn, a_reference, an_object_and_value, has_room, ill_typed, keep, put_in, replaces,
-    value_of_cell,
+    Turn, a_known_reference, an_object_and_value, has_room, ill_typed, keep, known_at, put_in,
+    replaces, value_of_cell,
 };
 
 /// A field of an object of the picture, where that has it.
@@ -45,7 +45,7 @@ pub(crate) fn field_named<'w>(
     world.find_field(declaring_class(world, method), entry)
 }
 
-/// The field that a getfield reads of the object of the picture on the top of the stack.
+/// The field that a getfield reads of the object of the picture that is known to be on the top of the stack.
 pub(crate) fn field_read<'w>(
     world: &'w World,
     state: &SymState,
@@ -58,7 +58,7 @@ pub(crate) fn field_read<'w>(
         return None;
     };
     let field = field_named(world, state, *entry)?;
-    let Some(SymValue::Obj(object)) = state.value_at(0) else {
+    let Some(SymValue::Obj(object)) = known_at(state, 0) else {
         return None;
     };
     if !has_slot_of(world, state, field, SymValue::Obj(object)) {
@@ -116,7 +116,7 @@ pub(crate) fn get_field(
     let Some(field) = field_named(turn.world, state, entry) else {
         return ill_typed(turn, state);
     };
-    match a_reference(state) {
+    match a_known_reference(state) {
         Some(object) => get(turn, state, field, object),
         None => ill_typed(turn, state),
     }

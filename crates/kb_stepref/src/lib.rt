@@ -2,18 +2,20 @@
 //! under lazy initialisation. Calls and new objects are carried out by kb_stepcall, what arrays, casts and literals need by
 //! kb_steparray.
 //!
-//! `specs/Questions.antt` has what a step must be told, `specs/Choices.antt` the alternatives, `specs/Takes.antt` what a take
+//! `specs/Looked.antt` has what each instruction looks into, `specs/Questions.antt` what a step must be told, `specs/Choices.antt` the alternatives, `specs/Takes.antt` what a take
 //! makes of a state.
 #![tactic(auto)]
 
 mod advance;
 mod choices;
 mod comparing;
+mod declared;
 mod fields;
 mod instructions;
 mod laws;
 mod locals;
 mod look;
+mod looked;
 mod questions;
 mod returns;
 mod take;

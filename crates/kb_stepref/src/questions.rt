@@ -1,11 +1,13 @@
 //! What a step must be told before it can be carried out.
 ghost use Rattle.std.specs.Prelude.{◌≡◌, option_and_then, IfOk, IfSome};
 ghost use Rattle.kb_steparray.specs.Arrays.{HasCounts};
-ghost use Rattle.kb_stepref.specs.Looks.{IsReadAt, asks_at, asks_at_turn, reads_at_turn};
-ghost use Rattle.kb_stepref.specs.Questions.{argument_or, is_choice};
+ghost use Rattle.kb_stepref.specs.Looks.{IsReadAt, IsReadBy, asks_at, asks_at_turn, reads_at_turn};
+ghost use Rattle.kb_stepref.specs.Questions.{argument_or, asked_by, asks_read, is_choice};
 
 use crate::NoMemory;
 use crate::fields::FieldAt;
+use crate::looked::open_location;
+use kb_code::Instr;
 use kb_frames::{SymState, is_reference};
 use kb_heap::Bounds;
 use kb_picture::Origin;
@@ -48,10 +50,33 @@ fn asked_of(
     requires asks { option_and_then (reads_at_turn world.now state.now) turn.now ≡ option_and_then (asks_at state.now) field.now }
     ensures { IfOk result (λ asked. asked ≡ option_and_then (asks_at_turn bounds.now world.now state.now) turn.now) }
 {
-    match (field, turn) {
-        (Some(at), _) => asks_field(alloc, state, at),
-        (None, Some(turn)) => kb_steparray::question(alloc, world, bounds, state, turn.instr),
-        (None, None) => Ok(None),
+    match turn {
+        Some(turn) => asked_by(alloc, world, bounds, state, turn.instr, field),
+        None => Ok(None),
+    }
+}
+
+/// What an instruction asks: which object the first open location is that it looks into, and where there is none what a field
+/// holds that it reads, or what another instruction must be told.
+pub(crate) fn asked_by(
+    alloc: Global,
+    world: &World,
+    bounds: &Bounds,
+    state: &SymState,
+    instr: &Instr,
+    field: &Option<FieldAt<'_>>,
+) -> Result<Option<Question>, NoMemory>
+    requires counts { HasCounts state.now }
+    requires read { IfSome field.now (IsReadBy world.now state.now instr.now) }
+    requires asks { asks_read world.now state.now instr.now ≡ option_and_then (asks_at state.now) field.now }
+    ensures { IfOk result (λ asked. asked ≡ asked_by bounds.now world.now state.now instr.now) }
+{
+    if let Some(at) = field {
+        return asks_field(alloc, state, at);
+    }
+    match open_location(world, state, instr) {
+        Some(location) => Ok(Some(Question::Accesses(location))),
+        None => kb_steparray::question(alloc, world, bounds, state, instr),
     }
 }
 
@@ -74,6 +99,7 @@ pub(crate) fn is_choice(question: &Option<Question>) -> bool
 {
     match question {
         Some(Question::Reads(_, kind)) => is_reference(kind),
+        Some(Question::Accesses(_)) => true,
         Some(Question::Index(..)) | Some(Question::Length(..)) => true,
         None => false,
     }

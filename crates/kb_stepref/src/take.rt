@@ -7,8 +7,7 @@ ghost use Rattle.kb_ways.specs.Turns.{led_by, told};
 ghost use Rattle.kb_stepref.specs.Choices.{alternatives, choices_of};
 ghost use Rattle.kb_lazy.specs.Laws.{AreInRange};
 ghost use Rattle.kb_stepref.specs.Laws.{IsAtReferences};
-ghost use Rattle.kb_stepref.specs.Looks.{IsLookAt, IsReady, behind, behind_choice, behind_chosen};
-ghost use Rattle.kb_steparray.specs.Questions.{asks};
+ghost use Rattle.kb_stepref.specs.Looks.{IsLookAt, IsReady, behind, behind_choice, behind_chosen, behind_object};
 ghost use Rattle.kb_stepref.specs.Questions.{asked_by, question_of};
 ghost use Rattle.kb_stepref.specs.Takes.{taken};
 ghost use Rattle.kb_ways.specs.Questions.{answers};
@@ -17,9 +16,10 @@ ghost use Rattle.kb_picture.specs.declared.choice.Choice.TheVariants.{Only};
 ghost use Rattle.kb_stepref.specs.Effects.{plan_of};
 
 use crate::NoMemory;
-use crate::fields::FieldAt;
+use crate::fields::{FieldAt, field_read};
 use crate::instructions::carry_out;
 use crate::look::{Look, look_at};
+use crate::questions::asked_by;
 use kb_frames::{Outcome, SymState, is_reference, variable_kind};
 use kb_heap::Bounds;
 use kb_picture::Choice;
@@ -28,9 +28,9 @@ use kb_ways::{Question, Turn, answer, passed_by, takes_none};
 use std::alloc::Global;
 
 /// Takes an alternative that [`crate::choices_ref`] lists for the state. What was chosen is put into the state: what a slot holds
-/// that is read for the first time, or what an index or a length asks for. Then the run goes beyond a bound, and the state is
-/// cut; or an argument was read, or a place chosen whose element is a reference that nobody touched, and the state asks for its
-/// next choice; or the instruction is carried out. Where nothing is asked the instruction is carried out.
+/// that is read for the first time, which object a location is, or what an index or a length asks for. Then the run goes beyond a
+/// bound, and the state is cut; or an argument was read, or an object or a place chosen behind which something else is chosen, and
+/// the state asks for its next choice; or the instruction is carried out. Where nothing is asked the instruction is carried out.
 ///
 /// After memory ran out the state is only dropped or undone. It takes time in proportion to the cells of a new object, to the
 /// locals of the method where its first instruction is taken up, and to the classes above that of the object whose field is
@@ -120,6 +120,7 @@ fn take_answer(
     }
     match question {
         Question::Reads(..) => go_behind(state, look),
+        Question::Accesses(_) => go_behind_object(alloc, state, choice, bounds, look),
         Question::Index(..) | Question::Length(..) => go_behind_choice(
             alloc, state, choice, bounds, look,
         ),
@@ -137,6 +138,39 @@ fn go_behind(state: &mut SymState, look: &Look<'_>) -> Result<Outcome, NoMemory>
     }
 }
 
+// What comes behind an object that was chosen: what the instruction must still be told.
+fn go_behind_object(
+    alloc: Global,
+    state: &mut SymState,
+    choice: &Choice,
+    bounds: &Bounds,
+    look: &Look<'_>,
+) -> Result<Outcome, NoMemory>
+    requires { IfSome look.now.turn (λ turn. IsReady turn None state.old) }
+    ensures { IfOk result (λ outcome. IfSome look.now.turn (λ turn. told state.new outcome ≡ behind_object (asked_by bounds.now) turn choice.now state.old)) }
+{
+    match &look.turn {
+        Some(turn) => go_on(alloc, turn, state, choice, bounds),
+        None => Ok(Outcome::Asks),
+    }
+}
+
+// It goes on by what the instruction must still be told.
+fn go_on(
+    alloc: Global,
+    turn: &Turn<'_>,
+    state: &mut SymState,
+    choice: &Choice,
+    bounds: &Bounds,
+) -> Result<Outcome, NoMemory>
+    requires { IsReady turn.now None state.old }
+    ensures { IfOk result (λ outcome. told state.new outcome ≡ behind_object (asked_by bounds.now) turn.now choice.now state.old) }
+{
+    let field = field_read(turn.world, state, turn.instr);
+    let asked = asked_by(alloc, turn.world, bounds, state, turn.instr, &field)?;
+    go_behind_chosen(turn, state, choice, &asked)
+}
+
 // What comes behind an index or a length: of a place what the instruction must still be told, else the instruction.
 fn go_behind_choice(
     alloc: Global,
@@ -145,23 +179,21 @@ fn go_behind_choice(
     bounds: &Bounds,
     look: &Look<'_>,
 ) -> Result<Outcome, NoMemory>
-    requires { IfSome look.now.turn (λ turn. IsReady turn look.now.field state.old) }
-    ensures { IfOk result (λ outcome. IfSome look.now.turn (λ turn. told state.new outcome ≡ behind_choice (asks bounds.now) turn choice.now state.old)) }
+    requires { IfSome look.now.turn (λ turn. IsReady turn None state.old) }
+    ensures { IfOk result (λ outcome. IfSome look.now.turn (λ turn. told state.new outcome ≡ behind_choice (asked_by bounds.now) turn choice.now state.old)) }
 {
     let Some(turn) = &look.turn else {
         return Ok(Outcome::Asks);
     };
     match choice {
-        Choice::Index(_) => {
-            let asked = kb_steparray::question(alloc, turn.world, bounds, state, turn.instr)?;
-            go_behind_place(turn, state, choice, &asked)
-        }
+        Choice::Index(_) => go_on(alloc, turn, state, choice, bounds),
         _ => carry_out(turn, state, choice, &None),
     }
 }
 
-// What comes behind a place: an int element is read, and the instruction is carried out; a reference is chosen next.
-fn go_behind_place(
+// What comes behind what was chosen: an int is read for the first time, and the instruction is carried out; all else is chosen
+// next.
+fn go_behind_chosen(
     turn: &Turn<'_>,
     state: &mut SymState,
     choice: &Choice,
@@ -178,6 +210,7 @@ fn go_behind_place(
             state.first_int(*slot, variable_kind(kind))?;
             carry_out(turn, state, choice, &None)
         }
+        Some(Question::Accesses(_)) => Ok(Outcome::Asks),
         Some(Question::Index(..)) | Some(Question::Length(..)) => Ok(Outcome::Asks),
         None => carry_out(turn, state, choice, &None),
     }

@@ -12,7 +12,7 @@ use crate::NoMemory;
 use kb_frames::{Outcome, SymState, SymValue};
 use kb_names::ExactType;
 use kb_semantics::World;
-use kb_ways::{Thrown, Turn, a_reference, ill_typed, thrown, throws};
+use kb_ways::{Thrown, Turn, a_known_reference, ill_typed, thrown, throws};
 
 const NULL_POINTER: &[u8] = b"java/lang/NullPointerException";
 
@@ -31,7 +31,7 @@ pub(crate) fn throw(turn: &Turn<'_>, state: &mut SymState) -> Result<Outcome, No
     requires { IsFor turn.now state.old }
     ensures { IfOk result (λ outcome. told state.new outcome ≡ led_by turn.now (throws_top turn.now.world.now state.old)) }
 {
-    match a_reference(state) {
+    match a_known_reference(state) {
         Some(value) => throw_reference(turn, state, value),
         None => ill_typed(turn, state),
     }

@@ -1,5 +1,5 @@
-//! Types of objects, and literals: checkcast, instanceof, and ldc of a string (JVMS 8 section 6.5). Under lazy initialisation
-//! each object is known, so nothing is chosen.
+//! Types of objects, and literals: checkcast, instanceof, and ldc of a string (JVMS 8 section 6.5). Which object a location
+//! is that is looked into was told before.
 ghost use Rattle.std.specs.Prelude.{◌≡◌, IfOk};
 ghost use Rattle.kb_ways.specs.Needs.{IsFor};
 ghost use Rattle.kb_semantics.specs.Ways.{class_cast};
@@ -11,7 +11,9 @@ use crate::NoMemory;
 use kb_frames::{Outcome, SymState, SymValue};
 use kb_lookups::declaring_class;
 use kb_names::ExactType;
-use kb_ways::{Turn, a_reference, ill_typed, is_object_of_exact, push_truth, replaces, throws};
+use kb_ways::{
+    Turn, a_known_reference, ill_typed, is_object_of_exact, push_truth, replaces, throws,
+};
 
 const CLASS_CAST: &[u8] = b"java/lang/ClassCastException";
 
@@ -48,7 +50,7 @@ pub(crate) fn cast(turn: &Turn<'_>, state: &mut SymState, entry: u16) -> Result<
     let Some(of) = turn.world.find_type(class, entry) else {
         return ill_typed(turn, state);
     };
-    match a_reference(state) {
+    match a_known_reference(state) {
         Some(value) => cast_to(turn, state, of, value),
         None => ill_typed(turn, state),
     }
@@ -83,7 +85,7 @@ pub(crate) fn instance_of(
     let Some(of) = turn.world.find_type(class, entry) else {
         return ill_typed(turn, state);
     };
-    match a_reference(state) {
+    match a_known_reference(state) {
         Some(value) => tell(turn, state, of, value),
         None => ill_typed(turn, state),
     }

@@ -1,5 +1,5 @@
 -- What a value is known to be has the kind and the value at an input that it has under its own name.
-use Rattle.std.proofs.Common.{◌≡◌, ℕ, List, [], ◌∷◌, map, option_map, slice_get, Option, Some, None, refl, sym, ap, subst, ◌∙◌}
+use Rattle.std.proofs.Common.{◌≡◌, ℕ, ◌<◌, Bool, true, false, not, ◌&&◌, List, [], ◌∷◌, length, map, option_map, slice_get, Option, Some, None, refl, sym, ap, subst, ◌∙◌, if◌then◌else◌, arith}
 use Rattle.std.proofs.lemmas.Option.{slice_get-map}
 use Rattle.std.specs.Option.{option_map_or}
 use Rattle.kb_heap.specs.declared.heap.Input.{Input}
@@ -17,7 +17,11 @@ use Rattle.kb_frames.specs.StandsFor.{IsInstanceOf, reading_at, value_of_sym, va
 use Rattle.kb_frames.specs.State.{State}
 use Rattle.kb_frames.specs.States.{Each, IsState, IsSymValue}
 use Rattle.kb_frames.proofs.ResolveLaws.{instance_same, resolved_there}
-use Rattle.kb_ways.specs.Known.{known, known_stack}
+use Rattle.kb_classes.specs.Options.{or_else}
+use Rattle.kb_ways.specs.Known.{first_open, known, known_stack, open_loc}
+use Rattle.kb_ways.specs.Looked.{both_sides, is_of_input, is_one_location, looked_operand}
+use Rattle.kb_ways.specs.Operands.{a_reference}
+use Rattle.kb_ways.proofs.KeptLaws.{reference_is}
 use Rattle.kb_ways.specs.Needs.{HasTerms, IsTermOf}
 
 pub known_there : (state : State) (depth : ℕ) → slice_get (known_stack state) depth ≡ option_map (known state) (slice_get (stack_of state.stage) depth)
@@ -95,3 +99,41 @@ values_same world state input i (value ∷ values) =
 pub stack_same : (world : World) (state : State) (input : Input) (i : IsInstanceOf state input)
     → values_of_sym (reading_at world state input i.shape.places) (known_stack state) ≡ values_of_sym (reading_at world state input i.shape.places) (stack_of state.stage)
 stack_same world state input i = values_same world state input i (stack_of state.stage)
+
+-- ---- what is not open
+
+-- the value is no open location
+abbrev pub IsClosed : SymValue → Type 0
+IsClosed value = open_loc value ≡ None
+
+pub closed_without : (world : World) (state : State) (value : SymValue) → state.picture.locs ≡ [] → IsSymValue world state value → IsClosed value
+closed_without world state (Int term) none is = refl
+closed_without world state Null none is = refl
+closed_without world state (Obj number) none is = refl
+closed_without world state (Literal number) none is = refl
+closed_without world state (New number) none is = refl
+closed_without world state (Loc number) none is = absurd (let less : number < length state.picture.locs = is in omega (arith, less, ap length none))
+
+pub each_closed : (world : World) (state : State) (values : List SymValue) → state.picture.locs ≡ [] → Each (IsSymValue world state) values → Each IsClosed values
+each_closed world state values none each i value at = closed_without world state value none (each i value at)
+
+pub stack_closed : (world : World) (state : State) → state.picture.locs ≡ [] → Each (IsSymValue world state) (stack_of state.stage) → Each IsClosed (known_stack state)
+stack_closed world state none each = subst (Each IsClosed) (sym (stack_without state none)) (each_closed world state (stack_of state.stage) none each)
+
+pub one_closed : (value : SymValue) → IsClosed value → first_open (value ∷ []) ≡ None
+one_closed value closed = ap (λ (it : Option ℕ). or_else it None) closed
+
+pub two_closed : (one other : SymValue) → IsClosed one → IsClosed other → first_open (one ∷ other ∷ []) ≡ None
+two_closed one other closed also = ap (λ (it : Option ℕ). or_else it (first_open (other ∷ []))) closed ∙ one_closed other also
+
+pub sides_closed : (one other : SymValue) → IsClosed one → IsClosed other → first_open (both_sides one other) ≡ None
+sides_closed one other closed also = go (is_of_input one && is_of_input other && not (is_one_location one other)) where
+  go : (b : Bool) → first_open (if b then one ∷ other ∷ [] else []) ≡ None
+  go true = two_closed one other closed also
+  go false = refl
+
+pub operand_closed : (state : State) → Each IsClosed (known_stack state) → first_open (looked_operand state) ≡ None
+operand_closed state each = go (a_reference (known_stack state)) refl where
+  go : (it : Option SymValue) → a_reference (known_stack state) ≡ it → first_open (option_map_or (λ (value : SymValue). value ∷ []) it []) ≡ None
+  go None e = refl
+  go (Some value) e = one_closed value (each 0 value (reference_is (slice_get (known_stack state) 0) value e))
