@@ -34,7 +34,7 @@ use Rattle.kb_frames.specs.declared.value.Outcome.{Outcome}
 use Rattle.kb_frames.specs.declared.value.Outcome.TheVariants.{Asks, Goes, Ends, Cut}
 use Rattle.kb_frames.specs.FirstReads.{with_read}
 use Rattle.kb_frames.specs.Lent.{begun, begun_stage, carried_on, read_count, stack_of, transfers_of, with_frame}
-use Rattle.kb_ways.specs.Measure.{choices_left, left_of, questions_of, unread_at}
+use Rattle.kb_ways.specs.Measure.{choices_left, left_of, needed, unread_at}
 use Rattle.kb_frames.specs.Next.{argument_next, instruction_next, method_now, next_is_int, offset_now}
 use Rattle.kb_frames.specs.State.{State}
 use Rattle.kb_ways.specs.Asked.{all_asked}
@@ -128,9 +128,9 @@ IsRunning (Begins read) = ⊥
 IsRunning (Runs frame callers) = Unit {0}
 
 few_at : (world : World) (state : State) (method : MethodId) (stage : Stage) → IsRunning stage
-    → left_of (unread_at world method stage) (option_map_or (questions_of state) (instruction_next world method stage) 0) ≤ 5
+    → left_of (unread_at world method stage) (option_map_or (needed world state) (instruction_next world method stage) 0) ≤ 5
 few_at world state method (Begins read) running = absurd running
-few_at world state method (Runs frame callers) running = few_next state (instruction_next world method (Runs frame callers))
+few_at world state method (Runs frame callers) running = few_next world state (instruction_next world method (Runs frame callers))
 
 pub framed_runs : (f : SymFrame → SymFrame) (stage : Stage) → IsRunning stage → IsRunning (with_frame f stage)
 framed_runs f (Begins read) running = absurd running

@@ -30,20 +30,24 @@ use Rattle.kb_frames.specs.State.{State}
 use Rattle.kb_frames.specs.States.{Each, IsSymValue}
 use Rattle.kb_frames.proofs.ItemLaws.{each_append, each_cons, each_drop, each_rest, no_items}
 use Rattle.kb_ways.specs.Identity.{same}
-use Rattle.kb_ways.specs.Known.{known}
+use Rattle.kb_ways.specs.Known.{first_open, known}
+use Rattle.kb_ways.specs.Looked.{both_sides}
+use Rattle.kb_picture.specs.Growing.{params_of}
+use Rattle.kb_frames.proofs.ResolveLaws.{instance_same}
 use Rattle.kb_ways.specs.Plans.{Planned, followed, plain, planned, here, pushes_term}
 use Rattle.kb_ways.specs.Ways.{Enters, Fails, Throws, with_stack}
 use Rattle.kb_stepcall.specs.Calls.{calls, calls_method, calls_on, invokes, on_object, selected_for}
 use Rattle.kb_ways.specs.Types.{object_type}
 use Rattle.kb_ways.proofs.PlannedLaws.{Follows, IsPlan, Situation, fails_is, if_is, number_is, plain_is, plan_follows, so, stack_is, state_of, there_is, with_is, with_same}
 use Rattle.kb_stepcall.specs.Operands.{are_of_kinds, argument_of, operand_types, operands_of, receiver_of, reference_at, topmost}
+use Rattle.kb_stepcall.specs.Looked.{compared_sides, looked_by_call, looked_by_calls}
 use Rattle.kb_stepcall.specs.Platform.{answers_at_once, equals}
-use Rattle.kb_ways.proofs.KnownLaws.{known_without}
-use Rattle.kb_ways.proofs.ObjectLaws.{object_there, same_told}
+use Rattle.kb_ways.proofs.KnownLaws.{IsClosed, first_closed, others_closed, reference_known, sides_told, value_known}
+use Rattle.kb_ways.proofs.ObjectLaws.{object_anywhere, object_there, same_is}
 use Rattle.kb_terms.specs.declared.node.Node.TheVariants.{Const}
 use Rattle.kb_terms.specs.Terms.{interned}
 use Rattle.kb_stepcall.proofs.OperandLaws.{given, is_reference_at, operands_are, reference_at_is}
-use Rattle.kb_ways.proofs.ReferenceLaws.{IsReference, referred}
+use Rattle.kb_ways.proofs.ReferenceLaws.{IsReference, reference_in, referred}
 use Rattle.kb_ways.specs.Operands.{reference}
 use Rattle.kb_ways.proofs.KeptLaws.{reference_is}
 
@@ -97,22 +101,30 @@ module _ (world : World) (bounds : Bounds) (at : Situation world bounds) (next :
 
   -- ---- an object
 
-  -- an object, of its exact type
-  named_is : (receiver : SymValue) (o : ℕ) → IsSymValue world state receiver → value_of_sym r receiver ≡ Ref o → (f : Object → Outcome) (plan : Planned)
-      → ((object : Object) → object_type state receiver ≡ Some object.kind → Is (f object) plan) → Is (with s c (object_at c.heap o) f) plan
-  named_is receiver o is e f plan h =
-      let it = object_there world state at.sound.cells at.known at.input at.correct at.stands.instance_of.shape c.heap at.stands.heap receiver o is e in
+  -- an object that is known, of its exact type
+  named_is : (receiver : SymValue) (o : ℕ) → IsClosed (known state receiver) → IsSymValue world state receiver → value_of_sym r receiver ≡ Ref o → (f : Object → Outcome) (plan : Planned)
+      → ((object : Object) → object_type state (known state receiver) ≡ Some object.kind → Is (f object) plan) → Is (with s c (object_at c.heap o) f) plan
+  named_is receiver o closed is e f plan h =
+      let it = object_there world state at.sound.cells at.input at.correct at.stands.instance_of.shape c.heap at.stands.heap (known state receiver) o closed
+      (value_known world (params_of world at.sound.typed.method) state at.sound.typed.formed receiver is) (instance_same world state at.input at.stands.instance_of receiver ∙ e) in
       there_is world bounds at next o it.object f plan it.found (h it.object it.kind)
 
+  -- and one of which nothing is looked at
+  any_is : (receiver : SymValue) (o : ℕ) → IsSymValue world state receiver → value_of_sym r receiver ≡ Ref o → (f : Object → Outcome) (plan : Planned) → ((object : Object) → Is (f object) plan)
+      → Is (with s c (object_at c.heap o) f) plan
+  any_is receiver o is e f plan h =
+      let it = object_anywhere world state at.sound.cells at.input at.correct at.stands.instance_of.shape c.heap at.stands.heap receiver o is e in
+      there_is world bounds at next o it.0 f plan it.1 (h it.0)
+
   -- a receiver that is not null is one
-  object_is : (receiver : SymValue) → IsReference receiver → IsSymValue world state receiver → (f : Object → Outcome) (plan : Planned)
-      → ((object : Object) → object_type state receiver ≡ Some object.kind → Is (f object) plan) → Is (on_machine_object s c (referred r receiver) (λ o object. f object)) (on_object state receiver plan)
-  object_is (Int t) kind is f plan h = absurd kind
-  object_is Null kind is f plan h = plain_is world bounds at next (throws s c null_pointer) (Throws null_pointer) refl
-  object_is (Obj n) kind is f plan h = named_is (Obj n) _ is refl f plan h
-  object_is (Literal n) kind is f plan h = named_is (Literal n) _ is refl f plan h
-  object_is (New n) kind is f plan h = named_is (New n) _ is refl f plan h
-  object_is (Loc n) kind is f plan h = named_is (Loc n) _ is refl f plan h
+  object_is : (receiver : SymValue) → IsReference receiver → (f : Object → Outcome) (plan : Planned) → ((o : ℕ) → value_of_sym r receiver ≡ Ref o → Is (with s c (object_at c.heap o) f) plan)
+      → Is (on_machine_object s c (referred r receiver) (λ o object. f object)) (on_object state receiver plan)
+  object_is (Int t) kind f plan h = absurd kind
+  object_is Null kind f plan h = plain_is world bounds at next (throws s c null_pointer) (Throws null_pointer) refl
+  object_is (Obj n) kind f plan h = h _ refl
+  object_is (Literal n) kind f plan h = h _ refl
+  object_is (New n) kind f plan h = h _ refl
+  object_is (Loc n) kind f plan h = h _ refl
 
   -- ---- the machine's call
 
@@ -127,28 +139,39 @@ module _ (world : World) (bounds : Bounds) (at : Situation world bounds) (next :
   -- ---- a call with its operands
 
   module _ (args rest : List SymValue) (each : Each (IsSymValue world state) args) (left : Each (IsSymValue world state) rest) where
-    known_is : (value : SymValue) → known state value ≡ value
-    known_is value = known_without state.picture.locs value at.known
+    abbrev receiver : SymValue
+    receiver = known state (receiver_of args)
 
-    same_there : same (known state (receiver_of args)) (known state (argument_of args)) ≡ Some (same_reference (machine_receiver (V args)) (machine_argument (V args)))
-    same_there =
-        ap (λ (one : SymValue). same one (known state (argument_of args))) (known_is (receiver_of args)) ∙ ap (same (receiver_of args)) (known_is (argument_of args))
-        ∙ same_told world state at.sound.cells at.known at.input at.correct at.stands.instance_of.shape c.heap at.stands.heap (receiver_of args) (argument_of args) (is_reference_at args 0) (is_reference_at args 1)
-        (there_at world state args 0 each) (there_at world state args 1 each)
-        ∙ ap (λ of. Some (same_reference of (referred r (argument_of args)))) (sym (reference_at_is r args 0))
-        ∙ ap (λ of. Some (same_reference (machine_receiver (V args)) of)) (sym (reference_at_is r args 1))
+    abbrev argument : SymValue
+    argument = known state (argument_of args)
 
-    equals_is : Is (goes s c next (IntValue (truth (same_reference (machine_receiver (V args)) (machine_argument (V args)))) ∷ V rest)) (equals state args rest)
-    equals_is =
+    -- a reference is the same as it is known
+    known_same : (value : SymValue) → referred r value ≡ referred r (known state value)
+    known_same value = ap reference_in (sym (instance_same world state at.input at.stands.instance_of value))
+
+    known_there : (place : ℕ) → IsSymValue world state (known state (reference_at args place))
+    known_there place = value_known world (params_of world at.sound.typed.method) state at.sound.typed.formed (reference_at args place) (there_at world state args place each)
+
+    same_there : (so : Bool) → same receiver argument ≡ Some so → same_reference (machine_receiver (V args)) (machine_argument (V args)) ≡ so
+    same_there so e =
+        ap (λ of. same_reference of (machine_argument (V args))) (reference_at_is r args 0 ∙ known_same (receiver_of args))
+        ∙ ap (same_reference (referred r receiver)) (reference_at_is r args 1 ∙ known_same (argument_of args))
+        ∙ same_is world state at.sound.cells at.input at.correct at.stands.instance_of.shape c.heap at.stands.heap receiver argument so
+        (reference_known state (receiver_of args) (is_reference_at args 0)) (reference_known state (argument_of args) (is_reference_at args 1)) (known_there 0) (known_there 1) e
+
+    equals_is : (so : Bool) → same receiver argument ≡ Some so → Is (goes s c next (IntValue (truth (same_reference (machine_receiver (V args)) (machine_argument (V args)))) ∷ V rest)) (equals state args rest)
+    equals_is so e =
         subst (λ (it : Option Bool). Is (goes s c next (IntValue (truth (same_reference (machine_receiver (V args)) (machine_argument (V args)))) ∷ V rest))
-        (planned state it (λ so. pushes_term state rest (interned state.nodes (Const (truth so)))))) (sym same_there)
-        (number_is world bounds at next (truth (same_reference (machine_receiver (V args)) (machine_argument (V args)))) rest left)
+        (planned state it (λ b. pushes_term state rest (interned state.nodes (Const (truth b)))))) (sym e)
+        (subst (λ (b : Bool). Is (goes s c next (IntValue (truth b) ∷ V rest)) (pushes_term state rest (interned state.nodes (Const (truth so))))) (sym (same_there so e))
+        (number_is world bounds at next (truth so) rest left))
 
-    at_once_is : (b : Bool)
+    -- where neither side is open, as it is compared
+    at_once_is : (b : Bool) → first_open (if b then both_sides receiver argument else []) ≡ None
         → Is (goes s c next (pushed (if b then Some (IntValue (truth (same_reference (machine_receiver (V args)) (machine_argument (V args))))) else None) (V rest)))
         (if b then equals state args rest else plain state (with_stack state rest))
-    at_once_is true = equals_is
-    at_once_is false = stack_is world bounds at next rest (V rest) refl
+    at_once_is true quiet = (let told = sides_told receiver argument quiet in equals_is told.0 told.1)
+    at_once_is false quiet = stack_is world bounds at next rest (V rest) refl
 
     abbrev answer : MethodInfo → Option Value
     answer method = if is_equals world method then Some (IntValue (truth (same_reference (machine_receiver (V args)) (machine_argument (V args))))) else None
@@ -162,36 +185,49 @@ module _ (world : World) (bounds : Bounds) (at : Situation world bounds) (next :
     abbrev called_method : ℕ → MethodInfo → Planned
     called_method number method = calls_method world state number method args rest
 
-    method_is : (number : ℕ) (method : MethodInfo) → Is (invoked_method number method) (called_method number method)
-    method_is number method =
+    method_is : (number : ℕ) (method : MethodInfo) → first_open (if is_equals world method then both_sides receiver argument else []) ≡ None → Is (invoked_method number method) (called_method number method)
+    method_is number method quiet =
         if_is world bounds at next (is_some method.code) (enters s c (record { 0 = number }) (V args) (V rest)) (without_code method) (plain state (Enters (record { 0 = number }) args rest))
         (if is_without_file world method.class.0 then answers_at_once world state method args rest else plain state Fails)
         (plain_is world bounds at next (enters s c (record { 0 = number }) (V args) (V rest)) (Enters (record { 0 = number }) args rest) refl)
         (if_is world bounds at next (is_without_file world method.class.0) (goes s c next (pushed (answer method) (V rest))) (ill_typed s c) (answers_at_once world state method args rest) (plain state Fails)
-        (at_once_is (is_equals world method)) (fails_is world bounds at next))
+        (at_once_is (is_equals world method) quiet) (fails_is world bounds at next))
 
-    calls_is : (found : Option ℕ) → Is (machine_invokes s next c found (V args) (V rest)) (calls world state found args rest)
-    calls_is found =
-        with_same world bounds at next (λ number. with s c (info_of world (record { 0 = number })) (invoked_method number)) (λ number. planned state (info_of world (record { 0 = number })) (called_method number)) found
-        (λ number. with_same world bounds at next (invoked_method number) (called_method number) (info_of world (record { 0 = number })) (method_is number))
+    calls_is : (found : Option ℕ) → first_open (compared_sides world state found args) ≡ None → Is (machine_invokes s next c found (V args) (V rest)) (calls world state found args rest)
+    calls_is None quiet = fails_is world bounds at next
+    calls_is (Some number) quiet = go (info_of world (record { 0 = number })) quiet
+      where
+        go : (it : Option MethodInfo) → first_open (if option_map_or (is_equals world) it false then both_sides receiver argument else []) ≡ None
+            → Is (with s c it (invoked_method number)) (planned state it (called_method number))
+        go None quiet = fails_is world bounds at next
+        go (Some method) quiet = method_is number method quiet
 
-    receiver_is : (f : Object → Outcome) (plan : Planned) → ((object : Object) → object_type state (receiver_of args) ≡ Some object.kind → Is (f object) plan)
+    receiver_is : (f : Object → Outcome) (plan : Planned) → ((o : ℕ) → value_of_sym r (receiver_of args) ≡ Ref o → Is (with s c (object_at c.heap o) f) plan)
         → Is (on_machine_object s c (machine_receiver (V args)) (λ o object. f object)) (on_object state (receiver_of args) plan)
     receiver_is f plan h =
         so world bounds at next (on_machine_object s c (machine_receiver (V args)) (λ o object. f object)) (on_machine_object s c (referred r (receiver_of args)) (λ o object. f object)) (on_object state (receiver_of args) plan)
         (ap (λ of. on_machine_object s c of (λ o object. f object)) (reference_at_is r args 0))
-        (object_is (receiver_of args) (is_reference_at args 0) (there_at world state args 0 each) f plan h)
+        (object_is (receiver_of args) (is_reference_at args 0) f plan h)
 
-    on_is : (call : CallKind) (entry : ℕ) (callee : Callee) → Is (on_by (here world state) call entry callee (V args) (V rest)) (calls_on call world state entry callee args rest)
-    on_is Static entry callee = calls_is (resolved_method world (here world state) entry)
-    on_is Special entry callee =
-        receiver_is (λ object. machine_invokes s next c (selected_special world (here world state) entry) (V args) (V rest)) (calls world state (selected_special world (here world state) entry) args rest)
-        (λ object kind. calls_is (selected_special world (here world state) entry))
-    on_is BySelection entry callee =
+    -- nothing that the call looks into is open
+    abbrev Quiet : CallKind → ℕ → Callee → Type 0
+    Quiet call entry callee = first_open (looked_by_call call entry world state callee args) ≡ None
+
+    on_is : (call : CallKind) (entry : ℕ) (callee : Callee) → Quiet call entry callee → Is (on_by (here world state) call entry callee (V args) (V rest)) (calls_on call world state entry callee args rest)
+    on_is Static entry callee quiet = calls_is (resolved_method world (here world state) entry) quiet
+    on_is Special entry callee quiet =
+        let found : Option ℕ = selected_special world (here world state) entry in
+        receiver_is (λ object. machine_invokes s next c found (V args) (V rest)) (calls world state found args rest) (λ o e.
+        any_is (receiver_of args) o (there_at world state args 0 each) e (λ object. machine_invokes s next c found (V args) (V rest)) (calls world state found args rest) (λ object. calls_is found quiet))
+    on_is BySelection entry callee quiet =
         receiver_is (λ object. machine_invokes s next c (selected_at world (here world state) entry callee object.kind) (V args) (V rest))
-        (calls world state (selected_for world state entry callee (receiver_of args)) args rest)
-        (λ object kind. subst (λ (it : Option ExactType). Is (machine_invokes s next c (selected_at world (here world state) entry callee object.kind) (V args) (V rest))
-        (calls world state (option_and_then (selected_at world (here world state) entry callee) it) args rest)) (sym (ap (object_type state) (known_is (receiver_of args)) ∙ kind)) (calls_is (selected_at world (here world state) entry callee object.kind)))
+        (calls world state (selected_for world state entry callee (receiver_of args)) args rest) (λ o e.
+        named_is (receiver_of args) o (first_closed receiver (compared_sides world state (selected_for world state entry callee (receiver_of args)) args) quiet) (there_at world state args 0 each) e
+        (λ object. machine_invokes s next c (selected_at world (here world state) entry callee object.kind) (V args) (V rest)) (calls world state (selected_for world state entry callee (receiver_of args)) args rest)
+        (λ object kind. subst (λ (it : Option ℕ). Is (machine_invokes s next c it (V args) (V rest)) (calls world state (selected_for world state entry callee (receiver_of args)) args rest))
+        (ap (option_and_then (selected_at world (here world state) entry callee)) kind)
+        (calls_is (selected_for world state entry callee (receiver_of args))
+        (others_closed receiver (compared_sides world state (selected_for world state entry callee (receiver_of args)) args) quiet))))
 
   -- ---- the call
 
@@ -207,9 +243,9 @@ module _ (world : World) (bounds : Bounds) (at : Situation world bounds) (next :
   abbrev called_on : CallKind → ℕ → Callee → List SymValue → Planned
   called_on call entry callee args = calls_on call world state entry callee args (drop (length (operand_types call callee.kind)) at.frame.stack)
 
-  operands_is : (call : CallKind) (entry : ℕ) (callee : Callee)
+  operands_is : (call : CallKind) (entry : ℕ) (callee : Callee) → first_open (option_map_or (looked_by_call call entry world state callee) (operands_of call callee.kind at.frame.stack) []) ≡ None
       → Is (with s c (machine_operands call callee.kind c.frame.stack) (on_taken (here world state) call entry callee)) (planned state (operands_of call callee.kind at.frame.stack) (called_on call entry callee))
-  operands_is call entry callee =
+  operands_is call entry callee quiet =
       let count : ℕ = length (operand_types call callee.kind) in
       so world bounds at next (with s c (machine_operands call callee.kind c.frame.stack) (on_taken (here world state) call entry callee))
       (with s c (option_map (given r count at.frame.stack) (operands_of call callee.kind at.frame.stack)) (on_taken (here world state) call entry callee))
@@ -220,20 +256,28 @@ module _ (world : World) (bounds : Bounds) (at : Situation world bounds) (next :
       on_is args (drop count at.frame.stack)
       (subst (Each (IsSymValue world state)) (only_is (are_of_kinds (operand_types call callee.kind) (topmost count at.frame.stack)) (topmost count at.frame.stack) args e)
       (each_topmost (IsSymValue world state) count at.frame.stack at.sound.stage.0.stack))
-      (each_drop (IsSymValue world state) count at.frame.stack at.sound.stage.0.stack) call entry callee))
+      (each_drop (IsSymValue world state) count at.frame.stack at.sound.stage.0.stack) call entry callee
+      (sym (ap (λ (it : Option (List SymValue)). first_open (option_map_or (looked_by_call call entry world state callee) it [])) e) ∙ quiet)))
 
-  called_is : (call : CallKind) (entry : ℕ) → Is (called_in (machine_here s c) call entry) (invokes call world state entry)
-  called_is call entry =
+  called_is : (call : CallKind) (entry : ℕ) → first_open (looked_by_calls call entry world state) ≡ None → Is (called_in (machine_here s c) call entry) (invokes call world state entry)
+  called_is call entry quiet =
       so world bounds at next (called_in (machine_here s c) call entry) (called_in (here world state) call entry) (invokes call world state entry) (ap (λ (class : ℕ). called_in class call entry) here_is)
-      (with_same world bounds at next (λ callee. with s c (machine_operands call callee.kind c.frame.stack) (on_taken (here world state) call entry callee))
-      (λ callee. planned state (operands_of call callee.kind at.frame.stack) (called_on call entry callee)) (callee_at world (here world state) entry) (operands_is call entry))
+      (go (callee_at world (here world state) entry) quiet)
+    where
+      go : (it : Option Callee)
+          → first_open (option_map_or (λ (callee : Callee). option_map_or (looked_by_call call entry world state callee) (operands_of call callee.kind at.frame.stack) []) it []) ≡ None
+          → Is (with s c it (λ callee. with s c (machine_operands call callee.kind c.frame.stack) (on_taken (here world state) call entry callee)))
+          (planned state it (λ callee. planned state (operands_of call callee.kind at.frame.stack) (called_on call entry callee)))
+      go None quiet = fails_is world bounds at next
+      go (Some callee) quiet = operands_is call entry callee quiet
 
-  invoked_is : (call : CallKind) (entry : ℕ) → Is (invoke call entry s next c) (invokes call world state entry)
+  invoked_is : (call : CallKind) (entry : ℕ) → first_open (looked_by_calls call entry world state) ≡ None → Is (invoke call entry s next c) (invokes call world state entry)
   unfolding invoke
-  invoked_is BySelection entry = called_is BySelection entry
-  invoked_is Special entry = called_is Special entry
-  invoked_is Static entry = called_is Static entry
+  invoked_is BySelection entry quiet = called_is BySelection entry quiet
+  invoked_is Special entry quiet = called_is Special entry quiet
+  invoked_is Static entry quiet = called_is Static entry quiet
 
-  -- Where the state stands for c, a call leads it where it leads the machine.
-  pub invokes_follow : (call : CallKind) (entry : ℕ) → stores s c ≡ [] → step s c ≡ invoke call entry s next c → Follows world bounds at (followed world bounds next (invokes call world state entry))
-  invokes_follow call entry stored e = plan_follows world bounds at next (invoke call entry s next c) (invokes call world state entry) (invoked_is call entry) stored e
+  -- Where the state stands for c, and nothing that the call looks into is open, it leads the state where it leads the machine.
+  pub invokes_follow : (call : CallKind) (entry : ℕ) → first_open (looked_by_calls call entry world state) ≡ None → stores s c ≡ [] → step s c ≡ invoke call entry s next c
+      → Follows world bounds at (followed world bounds next (invokes call world state entry))
+  invokes_follow call entry quiet stored e = plan_follows world bounds at next (invoke call entry s next c) (invokes call world state entry) (invoked_is call entry quiet) stored e

@@ -1,10 +1,11 @@
 -- What a call looks into, by its operands in their order, each as it is known: the receiver of invokevirtual and invokeinterface,
--- and then both sides of Object.equals, the receiver first. invokespecial looks into no receiver, and compares as well. Each is
--- the counterpart of the machine's list of that name (choices where an object is looked into: Deng, Lee and Robby, ASE 2006).
+-- and then both sides of Object.equals, the receiver first. invokespecial looks into no receiver, and compares as well; so would
+-- invokestatic, which names no method of a platform class where a program is accepted. Each is the counterpart of the machine's
+-- list of that name (choices where an object is looked into: Deng, Lee and Robby, ASE 2006).
 use Rattle.std.specs.Prelude.{ℕ, false, List, [], ◌∷◌, Option, option_and_then, if◌then◌else◌}
 use Rattle.std.specs.Option.{option_map_or}
 use Rattle.kb_classes.specs.World.{World}
-use Rattle.kb_world.specs.Calls.{selected_special}
+use Rattle.kb_world.specs.Calls.{resolved_method, selected_special}
 use Rattle.kb_semantics.specs.Config.{info_of}
 use Rattle.kb_semantics.specs.Instructions.{CallKind, BySelection, Special, Static, Callee, callee_at, is_equals}
 use Rattle.kb_frames.specs.declared.value.SymValue.{SymValue}
@@ -24,7 +25,7 @@ compared_sides world state found args =
 
 -- which method is called is known where the receiver is
 abbrev pub looked_by_call : CallKind → ℕ → World → State → Callee → List SymValue → List SymValue
-looked_by_call Static entry world state callee args = []
+looked_by_call Static entry world state callee args = compared_sides world state (resolved_method world (here world state) entry) args
 looked_by_call Special entry world state callee args = compared_sides world state (selected_special world (here world state) entry) args
 looked_by_call BySelection entry world state callee args = known state (receiver_of args) ∷ compared_sides world state (selected_for world state entry callee (receiver_of args)) args
 

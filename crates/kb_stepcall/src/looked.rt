@@ -26,7 +26,7 @@ pub fn open_in_call(world: &World, state: &SymState, call: Call, entry: u16) -> 
     let callee = callee_at(world, class, entry)?;
     let count = operands(state, call, callee.kind)?;
     match call {
-        Call::Static => None,
+        Call::Static => open_compared(world, state, world.find_resolved(class, entry), count),
         Call::Special => open_compared(world, state, world.find_special(class, entry), count),
         Call::BySelection => open_selected(world, state, entry, &callee, count),
     }

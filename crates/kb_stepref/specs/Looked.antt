@@ -9,7 +9,7 @@ use Rattle.kb_code.specs.declared.instruction.Instr.{Instr}
 use Rattle.kb_code.specs.declared.instruction.Instr.TheVariants as instrs
 use Rattle.kb_classes.specs.World.{World}
 use Rattle.kb_classes.specs.declared.slots.FieldSlot.{FieldSlot}
-use Rattle.kb_semantics.specs.Instructions.{BySelection, Special}
+use Rattle.kb_semantics.specs.Instructions.{BySelection, Special, Static}
 use Rattle.kb_frames.specs.declared.value.SymValue.{SymValue}
 use Rattle.kb_frames.specs.State.{State}
 use Rattle.kb_ways.specs.Known.{known_stack}
@@ -38,6 +38,7 @@ looked_by world state instrs.Length = looked_operand state
 looked_by world state (instrs.Virtual entry) = looked_by_calls BySelection entry world state
 looked_by world state (instrs.Interface entry) = looked_by_calls BySelection entry world state
 looked_by world state (instrs.Special entry) = looked_by_calls Special entry world state
+looked_by world state (instrs.Static entry) = looked_by_calls Static entry world state
 looked_by world state (instrs.Cast entry) = looked_operand state
 looked_by world state (instrs.InstanceOf entry) = looked_operand state
 looked_by world state instrs.Throw = looked_operand state

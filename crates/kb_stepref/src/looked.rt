@@ -25,6 +25,7 @@ pub(crate) fn open_location(world: &World, state: &SymState, instr: &Instr) -> O
         Instr::Virtual(entry) => open_in_call(world, state, Call::BySelection, *entry),
         Instr::Interface(entry) => open_in_call(world, state, Call::BySelection, *entry),
         Instr::Special(entry) => open_in_call(world, state, Call::Special, *entry),
+        Instr::Static(entry) => open_in_call(world, state, Call::Static, *entry),
         Instr::IfSame(..) => open_in_branch(state),
         _ => None,
     }

@@ -1,59 +1,65 @@
 -- What a value is known to be has the kind and the value at an input that it has under its own name.
-use Rattle.std.proofs.Common.{◌≡◌, ℕ, ◌<◌, Bool, true, false, not, ◌&&◌, List, [], ◌∷◌, length, map, option_map, slice_get, Option, Some, None, refl, sym, ap, subst, ◌∙◌, if◌then◌else◌, arith}
-use Rattle.std.proofs.lemmas.Option.{slice_get-map}
+use Rattle.std.proofs.Common.{◌≡◌, ℕ, ◌<◌, Bool, true, false, not, ◌&&◌, List, [], ◌∷◌, drop, length, map, nat_eq, option_map, slice_get, Option, Some, None, refl, sym, ap, subst, ◌∙◌, if◌then◌else◌, arith}
+use Rattle.std.proofs.lemmas.List.{drop-map}
+use Rattle.std.proofs.lemmas.Option.{none-some, same_Some, slice_get-map}
 use Rattle.std.specs.Option.{option_map_or}
 use Rattle.kb_heap.specs.declared.heap.Input.{Input}
 use Rattle.kb_classes.specs.World.{World}
 use Rattle.kb_terms.specs.declared.node.Node.{Node}
 use Rattle.kb_terms.specs.declared.node.TermId.{TermId}
+use Rattle.kb_picture.proofs.GrownPictures.{item_there}
 use Rattle.kb_picture.specs.declared.picture.PicLoc.{PicLoc}
 use Rattle.kb_picture.specs.declared.picture.Standing.{Standing}
 use Rattle.kb_picture.specs.declared.picture.Standing.TheVariants as standings
+use Rattle.kb_picture.specs.WellFormed.{IsPicture, IsStanding}
 use Rattle.kb_frames.specs.declared.value.SymValue.{SymValue}
 use Rattle.kb_frames.specs.declared.value.SymValue.TheVariants.{Int, Null, Obj, Literal, New, Loc}
-use Rattle.kb_frames.specs.Bindings.{resolved, standing_value}
+use Rattle.kb_frames.specs.Bindings.{resolved, resolved_loc, standing_value}
 use Rattle.kb_frames.specs.Lent.{stack_of}
 use Rattle.kb_frames.specs.StandsFor.{IsInstanceOf, reading_at, value_of_sym, values_of_sym}
 use Rattle.kb_frames.specs.State.{State}
-use Rattle.kb_frames.specs.States.{Each, IsState, IsSymValue}
-use Rattle.kb_frames.proofs.ResolveLaws.{instance_same, resolved_there}
+use Rattle.kb_frames.specs.States.{Each, IsSymValue}
+use Rattle.kb_frames.proofs.ResolveLaws.{instance_same}
 use Rattle.kb_classes.specs.Options.{or_else}
 use Rattle.kb_ways.specs.Known.{first_open, known, known_stack, open_loc}
+use Rattle.kb_ways.specs.Identity.{same}
 use Rattle.kb_ways.specs.Looked.{both_sides, is_of_input, is_one_location, looked_operand}
 use Rattle.kb_ways.specs.Operands.{a_reference}
 use Rattle.kb_ways.proofs.KeptLaws.{reference_is}
+use Rattle.kb_ways.proofs.ReferenceLaws.{IsReference}
 use Rattle.kb_ways.specs.Needs.{HasTerms, IsTermOf}
 
 pub known_there : (state : State) (depth : ℕ) → slice_get (known_stack state) depth ≡ option_map (known state) (slice_get (stack_of state.stage) depth)
 known_there state depth = slice_get-map (known state) (stack_of state.stage) depth
 
--- ---- where there are no locations
-
-pub known_without : (locs : List PicLoc) (value : SymValue) → locs ≡ [] → resolved locs value ≡ value
-known_without locs (Int term) none = refl
-known_without locs Null none = refl
-known_without locs (Obj number) none = refl
-known_without locs (Literal number) none = refl
-known_without locs (New number) none = refl
-known_without locs (Loc number) none = ap (λ (them : List PicLoc). resolved them (Loc number)) none
-
-known_all : (locs : List PicLoc) (values : List SymValue) → locs ≡ [] → map (resolved locs) values ≡ values
-known_all locs [] none = refl
-known_all locs (value ∷ values) none = ap (λ (v : SymValue). v ∷ map (resolved locs) values) (known_without locs value none) ∙ ap (λ (vs : List SymValue). value ∷ vs) (known_all locs values none)
-
--- each value of the stack is known by its own name
-pub stack_without : (state : State) → state.picture.locs ≡ [] → known_stack state ≡ stack_of state.stage
-stack_without state none = known_all state.picture.locs (stack_of state.stage) none
-
 -- ---- what is there
 
-pub each_known : (world : World) (state : State) (values : List SymValue) → IsState world state → Each (IsSymValue world state) values → Each (IsSymValue world state) (map (known state) values)
-each_known world state values sound each i value at = go (slice_get values i) refl (sym (slice_get-map (known state) values i) ∙ at) where
-  go : (it : Option SymValue) → slice_get values i ≡ it → option_map (known state) it ≡ Some value → IsSymValue world state value
-  go None is e = absurd cc
-  go (Some own) is e =
-      let same : known state own ≡ value = cc in
-      subst (IsSymValue world state) same (resolved_there world state sound own (each i own is))
+module _ (world : World) (params : ℕ) (state : State) (formed : IsPicture world params state.picture) where
+  standing_there : (number : ℕ) → number < length state.picture.locs → (standing : Standing) → IsStanding state.picture standing → IsSymValue world state (standing_value number standing)
+  standing_there number inside (standings.Obj object) is = is
+  standing_there number inside standings.Open is = inside
+  standing_there number inside standings.Beyond is = inside
+
+  loc_there : (number : ℕ) → number < length state.picture.locs → IsSymValue world state (resolved_loc state.picture.locs number)
+  loc_there number inside =
+      let there = item_there state.picture.locs number inside in
+      subst (λ (it : Option PicLoc). IsSymValue world state (option_map_or (λ (loc : PicLoc). standing_value number loc.standing) it (Loc number))) (sym there.1)
+      (standing_there number inside there.0.standing (formed.locs number there.0 there.1).1)
+
+  pub value_known : (value : SymValue) → IsSymValue world state value → IsSymValue world state (known state value)
+  value_known (Int term) is = is
+  value_known Null is = is
+  value_known (Obj number) is = is
+  value_known (Literal number) is = is
+  value_known (New number) is = is
+  value_known (Loc number) is = loc_there number is
+
+  pub each_known : (values : List SymValue) → Each (IsSymValue world state) values → Each (IsSymValue world state) (map (known state) values)
+  each_known values each i value at = go (slice_get values i) refl (sym (slice_get-map (known state) values i) ∙ at)
+    where
+      go : (it : Option SymValue) → slice_get values i ≡ it → option_map (known state) it ≡ Some value → IsSymValue world state value
+      go None is e = absurd cc
+      go (Some own) is e = (let same : known state own ≡ value = cc in subst (IsSymValue world state) same (value_known own (each i own is)))
 
 loc_no_int : (locs : List PicLoc) (number : ℕ) (t : TermId) → resolved locs (Loc number) ≡ Int t → ⊥
 loc_no_int locs number t = go (slice_get locs number) where
@@ -88,7 +94,7 @@ term_known state depth has = subst (IsTermOf state.nodes) (sym (known_there stat
 
 -- ---- the value at an input
 
-values_same : (world : World) (state : State) (input : Input) (i : IsInstanceOf state input) (values : List SymValue)
+pub values_same : (world : World) (state : State) (input : Input) (i : IsInstanceOf state input) (values : List SymValue)
     → values_of_sym (reading_at world state input i.shape.places) (map (known state) values) ≡ values_of_sym (reading_at world state input i.shape.places) values
 values_same world state input i [] = refl
 values_same world state input i (value ∷ values) =
@@ -100,25 +106,53 @@ pub stack_same : (world : World) (state : State) (input : Input) (i : IsInstance
     → values_of_sym (reading_at world state input i.shape.places) (known_stack state) ≡ values_of_sym (reading_at world state input i.shape.places) (stack_of state.stage)
 stack_same world state input i = values_same world state input i (stack_of state.stage)
 
+-- and so has what lies below the first ones
+pub rest_same : (world : World) (state : State) (input : Input) (i : IsInstanceOf state input) (n : ℕ)
+    → values_of_sym (reading_at world state input i.shape.places) (drop n (known_stack state)) ≡ values_of_sym (reading_at world state input i.shape.places) (drop n (stack_of state.stage))
+rest_same world state input i n =
+    ap (values_of_sym (reading_at world state input i.shape.places)) (drop-map (known state) n (stack_of state.stage)) ∙ values_same world state input i (drop n (stack_of state.stage))
+
+-- what is known as an int is that int
+pub int_known : (state : State) (it : Option SymValue) (t : TermId) → option_map (known state) it ≡ Some (Int t) → it ≡ Some (Int t)
+int_known state None t e = absurd cc
+int_known state (Some (Int u)) t e = e
+int_known state (Some Null) t e = absurd cc
+int_known state (Some (Obj n)) t e = absurd cc
+int_known state (Some (Literal n)) t e = absurd cc
+int_known state (Some (New n)) t e = absurd cc
+int_known state (Some (Loc n)) t e = absurd (loc_no_int state.picture.locs n t (same_Some (known state (Loc n)) (Int t) e))
+
+-- and what is a reference is known as one
+pub reference_known : (state : State) (value : SymValue) → IsReference value → IsReference (known state value)
+reference_known state (Int term) is = absurd is
+reference_known state Null is = tt
+reference_known state (Obj number) is = tt
+reference_known state (Literal number) is = tt
+reference_known state (New number) is = tt
+reference_known state (Loc number) is = go (known state (Loc number)) (loc_no_int state.picture.locs number) where
+  go : (it : SymValue) → ((t : TermId) → it ≡ Int t → ⊥) → IsReference it
+  go (Int term) none = absurd (none term refl)
+  go Null none = tt
+  go (Obj n) none = tt
+  go (Literal n) none = tt
+  go (New n) none = tt
+  go (Loc n) none = tt
+
 -- ---- what is not open
 
 -- the value is no open location
 abbrev pub IsClosed : SymValue → Type 0
 IsClosed value = open_loc value ≡ None
 
-pub closed_without : (world : World) (state : State) (value : SymValue) → state.picture.locs ≡ [] → IsSymValue world state value → IsClosed value
-closed_without world state (Int term) none is = refl
-closed_without world state Null none is = refl
-closed_without world state (Obj number) none is = refl
-closed_without world state (Literal number) none is = refl
-closed_without world state (New number) none is = refl
-closed_without world state (Loc number) none is = absurd (let less : number < length state.picture.locs = is in omega (arith, less, ap length none))
+-- where none of some values is open, the first is not, and the others are not
+pub first_closed : (value : SymValue) (others : List SymValue) → first_open (value ∷ others) ≡ None → IsClosed value
+first_closed value others e = go (open_loc value) e where
+  go : (it : Option ℕ) → or_else it (first_open others) ≡ None → it ≡ None
+  go None e = refl
+  go (Some n) e = absurd (none-some n (sym e))
 
-pub each_closed : (world : World) (state : State) (values : List SymValue) → state.picture.locs ≡ [] → Each (IsSymValue world state) values → Each IsClosed values
-each_closed world state values none each i value at = closed_without world state value none (each i value at)
-
-pub stack_closed : (world : World) (state : State) → state.picture.locs ≡ [] → Each (IsSymValue world state) (stack_of state.stage) → Each IsClosed (known_stack state)
-stack_closed world state none each = subst (Each IsClosed) (sym (stack_without state none)) (each_closed world state (stack_of state.stage) none each)
+pub others_closed : (value : SymValue) (others : List SymValue) → first_open (value ∷ others) ≡ None → first_open others ≡ None
+others_closed value others e = sym (ap (λ (it : Option ℕ). or_else it (first_open others)) (first_closed value others e)) ∙ e
 
 pub one_closed : (value : SymValue) → IsClosed value → first_open (value ∷ []) ≡ None
 one_closed value closed = ap (λ (it : Option ℕ). or_else it None) closed
@@ -137,3 +171,41 @@ operand_closed state each = go (a_reference (known_stack state)) refl where
   go : (it : Option SymValue) → a_reference (known_stack state) ≡ it → first_open (option_map_or (λ (value : SymValue). value ∷ []) it []) ≡ None
   go None e = refl
   go (Some value) e = one_closed value (each 0 value (reference_is (slice_get (known_stack state) 0) value e))
+
+-- where neither side is open, the table tells whether they are one
+pub sides_told : (one other : SymValue) → first_open (both_sides one other) ≡ None → (so : Bool) × (same one other ≡ Some so)
+sides_told Null Null e = (true, refl)
+sides_told Null (Int t) e = (false, refl)
+sides_told Null (Obj m) e = (false, refl)
+sides_told Null (Literal m) e = (false, refl)
+sides_told Null (New m) e = (false, refl)
+sides_told Null (Loc m) e = (false, refl)
+sides_told (Obj n) Null e = (false, refl)
+sides_told (Obj n) (Int t) e = (false, refl)
+sides_told (Obj n) (Obj m) e = (nat_eq n m, refl)
+sides_told (Obj n) (Literal m) e = (false, refl)
+sides_told (Obj n) (New m) e = (false, refl)
+sides_told (Obj n) (Loc m) e = absurd (none-some m (sym e))
+sides_told (Literal n) Null e = (false, refl)
+sides_told (Literal n) (Int t) e = (false, refl)
+sides_told (Literal n) (Obj m) e = (false, refl)
+sides_told (Literal n) (Literal m) e = (nat_eq n m, refl)
+sides_told (Literal n) (New m) e = (false, refl)
+sides_told (Literal n) (Loc m) e = (false, refl)
+sides_told (New n) Null e = (false, refl)
+sides_told (New n) (Int t) e = (false, refl)
+sides_told (New n) (Obj m) e = (false, refl)
+sides_told (New n) (Literal m) e = (false, refl)
+sides_told (New n) (New m) e = (nat_eq n m, refl)
+sides_told (New n) (Loc m) e = (false, refl)
+sides_told (Loc n) Null e = (false, refl)
+sides_told (Loc n) (Int t) e = (false, refl)
+sides_told (Loc n) (Obj m) e = absurd (none-some n (sym e))
+sides_told (Loc n) (Literal m) e = (false, refl)
+sides_told (Loc n) (New m) e = (false, refl)
+sides_told (Loc n) (Loc m) e = go (nat_eq n m) e
+  where
+    go : (b : Bool) → first_open (if true && true && not b then Loc n ∷ Loc m ∷ [] else []) ≡ None → (so : Bool) × ((if b then Some true else None) ≡ Some so)
+    go true e = (true, refl)
+    go false e = absurd (none-some n (sym e))
+sides_told (Int t) other e = (false, refl)

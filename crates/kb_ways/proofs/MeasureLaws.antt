@@ -29,7 +29,7 @@ use Rattle.kb_frames.specs.FirstReads.{first_int, with_read}
 use Rattle.kb_frames.specs.Heaps.{find_cell}
 use Rattle.kb_frames.specs.Lent.{read_count, stack_of, transfers_of}
 use Rattle.kb_ways.specs.Known.{known_stack, open_loc}
-use Rattle.kb_ways.specs.Measure.{choices_left, left_of, needed, open_argument, open_at, open_for, open_value, questions_of, questions_of_op, unchosen, unknown, unread_at, untouched, untouched_in}
+use Rattle.kb_ways.specs.Measure.{choices_left, left_of, needed, open_lowest, open_at, open_for, open_value, questions_of, questions_of_op, unchosen, unknown, unread_at, untouched, untouched_in}
 use Rattle.kb_ways.specs.Plans.{here}
 use Rattle.kb_semantics.specs.Instructions.{Callee, callee_at}
 use Rattle.kb_picture.specs.declared.picture.Picture.{Picture}
@@ -88,16 +88,16 @@ few_value (Some value) = few_opened (open_loc value)
 few_open : (state : State) (depth : ℕ) → open_at state depth ≤ 1
 few_open state depth = few_value (slice_get (known_stack state) depth)
 
-few_argument : (state : State) (arguments : ℕ) → open_argument state arguments ≤ 1
-few_argument state zero = omega arith
-few_argument state (suc others) = few_open state others
+few_lowest : (state : State) (count : ℕ) → open_lowest state count ≤ 1
+few_lowest state zero = omega arith
+few_lowest state (suc others) = few_open state others
 
-few_for : (state : State) (callee : Option Callee) → open_for state callee ≤ 2
-few_for state None = omega arith
-few_for state (Some callee) =
-    let receiver = few_open state (length callee.kind.params) in
-    let argument = few_argument state (length callee.kind.params) in
-    omega (arith, receiver, argument)
+few_for : (state : State) (receivers : ℕ) (callee : Option Callee) → open_for state receivers callee ≤ 2
+few_for state receivers None = omega arith
+few_for state receivers (Some callee) =
+    let lowest = few_lowest state (receivers + length callee.kind.params) in
+    let next = few_lowest state (receivers + length callee.kind.params - 1) in
+    omega (arith, lowest, next)
 
 -- no instruction needs more than five choices
 pub few : (world : World) (state : State) (instr : Instr) → needed world state instr ≤ 5
@@ -111,9 +111,10 @@ few world state (instrs.PutField entry) = (let one = few_open state 1 in omega (
 few world state (instrs.LoadElem elem) = (let one = few_open state 1 in let two = few_unknown state state.chosen in omega (arith, one, two))
 few world state (instrs.StoreElem elem) = (let array = few_open state 2 in let value = few_open state 0 in let one = few_unchosen state.chosen in omega (arith, array, value, one))
 few world state instrs.Length = (let one = few_open state 0 in omega (arith, one))
-few world state (instrs.Virtual entry) = (let two = few_for state (callee_at world (here world state) entry) in omega (arith, two))
-few world state (instrs.Interface entry) = (let two = few_for state (callee_at world (here world state) entry) in omega (arith, two))
-few world state (instrs.Special entry) = (let two = few_for state (callee_at world (here world state) entry) in omega (arith, two))
+few world state (instrs.Virtual entry) = (let two = few_for state 1 (callee_at world (here world state) entry) in omega (arith, two))
+few world state (instrs.Interface entry) = (let two = few_for state 1 (callee_at world (here world state) entry) in omega (arith, two))
+few world state (instrs.Special entry) = (let two = few_for state 1 (callee_at world (here world state) entry) in omega (arith, two))
+few world state (instrs.Static entry) = (let two = few_for state 0 (callee_at world (here world state) entry) in omega (arith, two))
 few world state (instrs.Cast entry) = (let one = few_open state 0 in omega (arith, one))
 few world state (instrs.InstanceOf entry) = (let one = few_open state 0 in omega (arith, one))
 few world state instrs.Throw = (let one = few_open state 0 in omega (arith, one))

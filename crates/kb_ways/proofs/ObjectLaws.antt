@@ -1,11 +1,11 @@
--- What a symbolic reference leads to at an input: an object of the picture lies at its place, a literal behind the input's
--- objects, and an object that the run has made behind those. What a state keeps of their slots is what the heap has there.
+-- What a symbolic reference leads to at an input: an object of the picture and a location lie at their places, a literal behind
+-- the input's objects, and an object that the run has made behind those. What a state keeps of their slots is what the heap has there.
 use Rattle.std.proofs.Common.{◌≡◌, ℕ, zero, suc, ◌+◌, ◌<◌, ◌≤◌, Bool, true, false, List, [], ◌∷◌, length, map, drop, replicate, nat_eq, slice_get, Option, Some, None, if◌then◌else◌, refl, sym, ap, subst, ◌∙◌, inl, inr, arith}
 use Rattle.std.specs.Option.{option_map, option_map_or}
 use Rattle.std.proofs.lemmas.Bool.{eq-eqb, ne_eqb}
 use Rattle.std.proofs.lemmas.Bool.Decides.{eqb_tells}
 use Rattle.std.proofs.lemmas.List.{drop_at, length-map}
-use Rattle.std.proofs.lemmas.Option.{get_or_from_slice_get, same_Some, slice_get-map, slice_get_within}
+use Rattle.std.proofs.lemmas.Option.{get_or_from_slice_get, none-some, same_Some, slice_get-map, slice_get_within}
 use Rattle.kb_class.specs.Naming.{Has}
 use Rattle.kb_class.proofs.Lists.{all_has}
 use Rattle.kb_heap.specs.declared.heap.Heap.{Heap}
@@ -38,6 +38,7 @@ use Rattle.kb_frames.specs.declared.value.SymValue.TheVariants.{Int, Null, Obj, 
 use Rattle.kb_frames.specs.StandsFor.{HeapStandsFor, IsLike, made_at, reading_at, value_of_sym}
 use Rattle.kb_frames.specs.State.{State}
 use Rattle.kb_frames.specs.States.{AreCells, IsSymValue}
+use Rattle.kb_ways.proofs.KnownLaws.{IsClosed}
 use Rattle.kb_ways.proofs.OutcomeStands.{as_many}
 use Rattle.kb_ways.proofs.OutcomeValues.{there}
 use Rattle.kb_ways.proofs.OutcomeWays.{no_place}
@@ -94,7 +95,7 @@ pub record IsObject (state : State) (heap : Heap) (value : SymValue) (o : ℕ) :
   pub found : object_at heap o ≡ Some object
   pub kind : object_type state value ≡ Some object.kind
 
-module _ (world : World) (state : State) (cells : AreCells world state) (known : state.picture.locs ≡ []) (input : Input) (correct : IsTypeCorrect world state.method input)
+module _ (world : World) (state : State) (cells : AreCells world state) (input : Input) (correct : IsTypeCorrect world state.method input)
     (shape : HasShape state.picture input) (heap : Heap) (stands : HeapStandsFor (reading_at world state input shape.places) state (first_heap world input.heap) heap) where
   abbrev places : List ℕ
   places = shape.places.objects
@@ -110,9 +111,6 @@ module _ (world : World) (state : State) (cells : AreCells world state) (known :
 
   abbrev r : Reading
   r = reading_at world state input shape.places
-
-  pub no_loc : (number : ℕ) → number < length state.picture.locs → ⊥
-  no_loc number inside = omega (arith, inside, ap length known)
 
   -- ---- objects of the picture
 
@@ -276,50 +274,13 @@ module _ (world : World) (state : State) (cells : AreCells world state) (known :
   same_is (Loc n) (New m) so h k is si e = below_same (place_at shape.places.locs n) (inputs + literals + m) (loc_below_made n m is) ∙ same_Some false so e
   same_is (Loc n) (Loc m) so h k is si e = locs_same n m so e
 
-  -- where there are no locations, it always does
-  all_told : (one other : SymValue) → IsSymValue world state one → IsSymValue world state other → same one other ≡ None → ⊥
-  all_told (Int t) other is si e = cc
-  all_told Null (Int t) is si e = cc
-  all_told Null Null is si e = cc
-  all_told Null (Obj m) is si e = cc
-  all_told Null (Literal m) is si e = cc
-  all_told Null (New m) is si e = cc
-  all_told Null (Loc m) is si e = cc
-  all_told (Obj n) (Int t) is si e = cc
-  all_told (Obj n) Null is si e = cc
-  all_told (Obj n) (Obj m) is si e = cc
-  all_told (Obj n) (Literal m) is si e = cc
-  all_told (Obj n) (New m) is si e = cc
-  all_told (Obj n) (Loc m) is si e = no_loc m si
-  all_told (Literal n) (Int t) is si e = cc
-  all_told (Literal n) Null is si e = cc
-  all_told (Literal n) (Obj m) is si e = cc
-  all_told (Literal n) (Literal m) is si e = cc
-  all_told (Literal n) (New m) is si e = cc
-  all_told (Literal n) (Loc m) is si e = cc
-  all_told (New n) (Int t) is si e = cc
-  all_told (New n) Null is si e = cc
-  all_told (New n) (Obj m) is si e = cc
-  all_told (New n) (Literal m) is si e = cc
-  all_told (New n) (New m) is si e = cc
-  all_told (New n) (Loc m) is si e = cc
-  all_told (Loc n) other is si e = no_loc n is
-
-  pub same_told : (one other : SymValue) → IsReference one → IsReference other → IsSymValue world state one → IsSymValue world state other
-      → same one other ≡ Some (same_reference (referred r one) (referred r other))
-  same_told one other h k is si = go (same one other) refl
-    where
-      go : (it : Option Bool) → same one other ≡ it → it ≡ Some (same_reference (referred r one) (referred r other))
-      go None e = absurd (all_told one other is si e)
-      go (Some so) e = ap (λ (b : Bool). Some b) (sym (same_is one other so h k is si e))
-
   -- ---- the object to which a value leads
 
-  pub object_there : (value : SymValue) (o : ℕ) → IsSymValue world state value → value_of_sym r value ≡ Ref o → IsObject state heap value o
+  pub object_there : (value : SymValue) (o : ℕ) → IsClosed value → IsSymValue world state value → value_of_sym r value ≡ Ref o → IsObject state heap value o
   unfolding reading_at
-  object_there (Int t) o is e = absurd cc
-  object_there Null o is e = absurd cc
-  object_there (Obj n) o is e =
+  object_there (Int t) o closed is e = absurd cc
+  object_there Null o closed is e = absurd cc
+  object_there (Obj n) o closed is e =
       let here : place_at places n ≡ o = cc in
       let object = there state.picture.objects n is in
       let p = object_placed n object.0 object.1 in
@@ -328,10 +289,10 @@ module _ (world : World) (state : State) (cells : AreCells world state) (known :
         found = ap (object_at heap) (sym here ∙ place_is n object.0 p) ∙ p.found;
         kind = ap (option_map (λ (x : PicObject). x.kind)) object.1 ∙ ap (λ (k : ExactType). Some k) (sym p.kind);
       }
-  object_there (Literal n) o is e =
+  object_there (Literal n) o closed is e =
       let here : inputs + n ≡ o = cc in
       record { object = literal; found = ap (object_at heap) (sym here) ∙ literal_there n is; kind = refl }
-  object_there (New n) o is e =
+  object_there (New n) o closed is e =
       let here : inputs + literals + n ≡ o = cc in
       let made = there state.made n is in
       record {
@@ -339,12 +300,33 @@ module _ (world : World) (state : State) (cells : AreCells world state) (known :
         found = ap (object_at heap) (sym here) ∙ made_there n ∙ ap (option_map (made_at r)) made.1;
         kind = ap (option_map (λ (x : SymObject). x.kind)) made.1;
       }
-  object_there (Loc n) o is e = absurd (no_loc n is)
+  object_there (Loc n) o closed is e = absurd (none-some n (sym closed))
+
+  -- where a location lies there is one as well, open or not
+  loc_object : (number : ℕ) → number < length state.picture.locs → (object : Object) × (object_at heap (place_at shape.places.locs number) ≡ Some object)
+  loc_object number less =
+      let place : ℕ = place_at shape.places.locs number in
+      let inside : place < inputs = loc_below number less in
+      let own = there input.heap.objects place inside in
+      let like = like_one (object_at heap place) (object_at first place) own.0 (slice_get-append-left input.heap.objects (replicate literals literal) place inside ∙ own.1) (stands.like place inside) in
+      (like.0, like.1)
+
+  pub object_anywhere : (value : SymValue) (o : ℕ) → IsSymValue world state value → value_of_sym r value ≡ Ref o → (object : Object) × (object_at heap o ≡ Some object)
+  unfolding reading_at
+  object_anywhere (Loc n) o is e =
+      let here : place_at shape.places.locs n ≡ o = cc in
+      let it = loc_object n is in
+      (it.0, ap (object_at heap) (sym here) ∙ it.1)
+  object_anywhere (Int t) o is e = absurd cc
+  object_anywhere Null o is e = absurd cc
+  object_anywhere (Obj n) o is e = (let it = object_there (Obj n) o refl is e in (it.object, it.found))
+  object_anywhere (Literal n) o is e = (let it = object_there (Literal n) o refl is e in (it.object, it.found))
+  object_anywhere (New n) o is e = (let it = object_there (New n) o refl is e in (it.object, it.found))
 
   -- It is of a type in the heap where it is in the state.
-  pub is_typed : (type : JType) (value : SymValue) (o : ℕ) → IsSymValue world state value → value_of_sym r value ≡ Ref o
+  pub is_typed : (type : JType) (value : SymValue) (o : ℕ) → IsClosed value → IsSymValue world state value → value_of_sym r value ≡ Ref o
       → option_map_or (λ (x : Object). fits world x.kind type) (object_at heap o) false ≡ is_object_of world state type value
-  is_typed type value o is e =
-      let object = object_there value o is e in
+  is_typed type value o closed is e =
+      let object = object_there value o closed is e in
       ap (λ (it : Option Object). option_map_or (λ (x : Object). fits world x.kind type) it false) object.found
       ∙ sym (ap (λ (it : Option ExactType). option_map_or (λ (kind : ExactType). fits world kind type) it false) object.kind)

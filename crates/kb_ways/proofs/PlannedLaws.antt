@@ -39,14 +39,17 @@ use Rattle.kb_ways.specs.Simulation.{IsOutcome}
 use Rattle.kb_ways.specs.Ways.{Take, Way, Fails, went, with_stack}
 use Rattle.kb_ways.proofs.GrowLaws.{interned_extends}
 use Rattle.kb_ways.proofs.KeptLaws.{reference_is}
+use Rattle.kb_ways.proofs.KnownLaws.{each_known, rest_same, stack_same}
+use Rattle.kb_ways.specs.Known.{known_stack}
+use Rattle.kb_picture.specs.Growing.{params_of}
 use Rattle.kb_ways.proofs.LocalLaws.{led_to}
 use Rattle.kb_ways.proofs.OutcomeValues.{IsLater, frame_later, frames_later, reading_int, reading_later, values_later}
 use Rattle.kb_ways.proofs.OutcomeWays.{went_is}
-use Rattle.kb_ways.proofs.ReferenceLaws.{IsReference, one_reference_is, reference_kind, top_reference}
+use Rattle.kb_ways.proofs.ReferenceLaws.{IsReference, one_reference_is, reference_kind, referred, top_reference}
 use Rattle.kb_ways.proofs.SoundLaws.{Sound}
 use Rattle.kb_ways.proofs.ValueLaws.{constant_made}
 
--- A state with these frames, in which every object is known, and a configuration of an input's run for which it stands.
+-- A state with these frames, and a configuration of an input's run for which it stands.
 pub record Situation (world : World) (bounds : Bounds) : Type 0 where
   pub base : State
   pub frame : SymFrame
@@ -54,7 +57,6 @@ pub record Situation (world : World) (bounds : Bounds) : Type 0 where
   pub input : Input
   pub config : Config
   pub sound : Sound world (record base { stage = Runs frame callers })
-  pub known : base.picture.locs ≡ []
   pub correct : IsTypeCorrect world base.method input
   pub stands : StandsFor (setting_of world bounds) (record base { stage = Runs frame callers }) input config
 
@@ -130,6 +132,30 @@ module _ (world : World) (bounds : Bounds) (at : Situation world bounds) where
       reference_kind (slice_get at.frame.stack depth) value e,
       at.sound.stage.0.stack depth value (reference_is (slice_get at.frame.stack depth) value e),
     )
+
+    -- and as it is known
+    pub known_reference_there : (depth : ℕ) (value : SymValue) → reference (slice_get (known_stack state_of) depth) ≡ Some value → IsReference value × IsSymValue world state_of value
+    known_reference_there depth value e = (
+      reference_kind (slice_get (known_stack state_of) depth) value e,
+      each_known world (params_of world at.sound.typed.method) state_of at.sound.typed.formed at.frame.stack at.sound.stage.0.stack depth value (reference_is (slice_get (known_stack state_of) depth) value e),
+    )
+
+    -- the machine's stack has the values of what is known
+    pub known_is : at.config.frame.stack ≡ values_of_sym r (known_stack state_of)
+    known_is = at.stands.stage.0.stack ∙ sym (stack_same world state_of at.input at.stands.instance_of)
+
+    pub with_known_reference : (f : Taken Reference → Outcome) (plan : SymValue → Planned)
+        → ((value : SymValue) → one_reference (known_stack state_of) ≡ Some value → IsPlan (f (top_reference r at.frame.stack value)) (plan value))
+        → IsPlan (with s at.config (a_reference at.config.frame.stack) f) (planned state_of (one_reference (known_stack state_of)) plan)
+    with_known_reference f plan h =
+        so (with s at.config (a_reference at.config.frame.stack) f) (with s at.config (option_map (top_reference r at.frame.stack) (one_reference (known_stack state_of))) f)
+        (planned state_of (one_reference (known_stack state_of)) plan)
+        (ap (λ (o : Option (Taken Reference)). with s at.config o f) (ap a_reference known_is ∙ (one_reference_is r (known_stack state_of) ∙ below (one_reference (known_stack state_of)))))
+        (with_is (top_reference r at.frame.stack) f plan (one_reference (known_stack state_of)) h)
+      where
+        below : (it : Option SymValue) → option_map (top_reference r (known_stack state_of)) it ≡ option_map (top_reference r at.frame.stack) it
+        below None = refl
+        below (Some value) = ap (λ (rest : List Value). Some (record { it = referred r value; rest = rest })) (rest_same world state_of at.input at.stands.instance_of 1)
 
     pub with_reference : (f : Taken Reference → Outcome) (plan : SymValue → Planned)
         → ((value : SymValue) → one_reference at.frame.stack ≡ Some value → IsPlan (f (top_reference r at.frame.stack value)) (plan value))

@@ -229,13 +229,13 @@ module _ (world : World) (bounds : Bounds) (at : Situation world bounds) (ordere
     unfolding reading_at
     in_object number o named is has stored e =
         let object = there state.picture.objects number is in
-        let p = object_placed world state at.sound.cells at.known at.input at.correct at.stands.instance_of.shape c.heap at.stands.heap number object.0 object.1 in
+        let p = object_placed world state at.sound.cells at.input at.correct at.stands.instance_of.shape c.heap at.stands.heap number object.0 object.1 in
         let same : place_at places.objects number ≡ o = cc in
-        let here : p.place ≡ o = sym (place_is world state at.sound.cells at.known at.input at.correct at.stands.instance_of.shape c.heap at.stands.heap number object.0 p) ∙ same in
+        let here : p.place ≡ o = sym (place_is world state at.sound.cells at.input at.correct at.stands.instance_of.shape c.heap at.stands.heap number object.0 p) ∙ same in
         let lies : slice_get places.objects number ≡ Some o = p.at ∙ ap Some here in
         let found : object_at c.heap o ≡ Some p.object = ap (object_at c.heap) (sym here) ∙ p.found in
         let inside_it : slot < length p.object.values =
-        has.inside p.object (ap (object_at c.heap) (place_is world state at.sound.cells at.known at.input at.correct at.stands.instance_of.shape c.heap at.stands.heap number object.0 p) ∙ p.found) in
+        has.inside p.object (ap (object_at c.heap) (place_is world state at.sound.cells at.input at.correct at.stands.instance_of.shape c.heap at.stands.heap number object.0 p) ∙ p.found) in
         let cells : List (List Cell) = with_cell at.base.cells number slot (Written it) in
         put_follows room nodes more cells at.base.made o slot value p.object found
         (object_put (reading_at world (new room nodes more cells at.base.made) at.input places) state (new room nodes more cells at.base.made) first c.heap (stood room nodes more cells at.base.made)

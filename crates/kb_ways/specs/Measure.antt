@@ -78,29 +78,28 @@ open_value (Some value) = option_map_or (λ (number : ℕ). 1) (open_loc value) 
 abbrev pub open_at : State → ℕ → ℕ
 open_at state depth = open_value (slice_get (known_stack state) depth)
 
--- the receiver of a call with so many arguments, which lies below them, and the first of these
-abbrev pub open_argument : State → ℕ → ℕ
-open_argument state zero = 0
-open_argument state (suc others) = open_at state others
+-- the lowest of so many operands
+abbrev pub open_lowest : State → ℕ → ℕ
+open_lowest state zero = 0
+open_lowest state (suc others) = open_at state others
 
-abbrev pub open_in_call : State → ℕ → ℕ
-open_in_call state arguments = open_at state arguments + open_argument state arguments
-
-abbrev pub open_for : State → Option Callee → ℕ
-open_for state None = 0
-open_for state (Some callee) = open_in_call state (length callee.kind.params)
+-- the two lowest operands of a call, with so many before the arguments
+abbrev pub open_for : State → ℕ → Option Callee → ℕ
+open_for state receivers None = 0
+open_for state receivers (Some callee) = open_lowest state (receivers + length callee.kind.params) + open_lowest state (receivers + length callee.kind.params - 1)
 
 -- how many of the operands are open that the instruction may look into: of a field its object, of an element its array and the
--- value that is stored, of a call its receiver and the first argument, which Object.equals compares, of a branch both sides
+-- value that is stored, of a call its receiver and the next operand, which Object.equals compares, of a branch both sides
 abbrev pub unopened : World → State → Instr → ℕ
 unopened world state (instrs.GetField entry) = open_at state 0
 unopened world state (instrs.PutField entry) = open_at state 1
 unopened world state (instrs.LoadElem elem) = open_at state 1
 unopened world state (instrs.StoreElem elem) = open_at state 2 + open_at state 0
 unopened world state instrs.Length = open_at state 0
-unopened world state (instrs.Virtual entry) = open_for state (callee_at world (here world state) entry)
-unopened world state (instrs.Interface entry) = open_for state (callee_at world (here world state) entry)
-unopened world state (instrs.Special entry) = open_for state (callee_at world (here world state) entry)
+unopened world state (instrs.Virtual entry) = open_for state 1 (callee_at world (here world state) entry)
+unopened world state (instrs.Interface entry) = open_for state 1 (callee_at world (here world state) entry)
+unopened world state (instrs.Special entry) = open_for state 1 (callee_at world (here world state) entry)
+unopened world state (instrs.Static entry) = open_for state 0 (callee_at world (here world state) entry)
 unopened world state (instrs.Cast entry) = open_at state 0
 unopened world state (instrs.InstanceOf entry) = open_at state 0
 unopened world state instrs.Throw = open_at state 0
