@@ -3,7 +3,7 @@
 use Rattle.std.proofs.Common.{◌≡◌, ◌≢◌, ℕ, zero, suc, ◌+◌, ◌<◌, Bool, true, false, List, [], ◌∷◌, length, slice_get, is_some, Option, Some, None, refl, sym, ap, subst, ◌∙◌, arith}
 use Rattle.std.specs.Option.{option_map, option_and_then}
 use Rattle.std.proofs.lemmas.List.{length-map}
-use Rattle.std.proofs.lemmas.Option.{same_Some, slice_get-map}
+use Rattle.std.proofs.lemmas.Option.{none-some, same_Some, slice_get-map}
 use Rattle.kb_heap.specs.declared.bounds.Bounds.{Bounds}
 use Rattle.kb_heap.specs.declared.heap.Heap.{Heap}
 use Rattle.kb_heap.specs.declared.heap.Object.{Object}
@@ -34,7 +34,8 @@ use Rattle.kb_frames.specs.State.{State, cell_at}
 use Rattle.kb_frames.specs.States.{HasCells, IsSymValue}
 use Rattle.kb_frames.proofs.CellLaws.{found_cell}
 use Rattle.kb_ways.specs.Slots.{first_ask, held_in}
-use Rattle.kb_ways.proofs.ObjectLaws.{IsPlaced, literal_there, made_there, no_loc, object_placed, place_is}
+use Rattle.kb_ways.proofs.KnownLaws.{IsClosed}
+use Rattle.kb_ways.proofs.ObjectLaws.{IsPlaced, literal_there, made_there, object_placed, place_is}
 use Rattle.kb_ways.proofs.OutcomeValues.{there}
 use Rattle.kb_ways.proofs.PlannedLaws.{Situation, state_of}
 use Rattle.kb_ways.proofs.PutLaws.{HasCell, HasSlot, IsMadeWith}
@@ -179,7 +180,7 @@ module _ (world : World) (bounds : Bounds) (at : Situation world bounds) (bounde
   r = reading_at world state at.input at.stands.instance_of.shape.places
 
   placed : (number : ℕ) (expected : PicObject) → slice_get state.picture.objects number ≡ Some expected → IsPlaced world places inputs heap number expected
-  placed = object_placed world state at.sound.cells at.known at.input at.correct at.stands.instance_of.shape heap at.stands.heap
+  placed = object_placed world state at.sound.cells at.input at.correct at.stands.instance_of.shape heap at.stands.heap
 
   -- ---- the array
 
@@ -200,7 +201,7 @@ module _ (world : World) (bounds : Bounds) (at : Situation world bounds) (bounde
       let p = placed number object.0 object.1 in
       let row = there state.cells number (omega (arith, inside, at.sound.cells.count)) in
       let found : object_at heap o ≡ Some p.object =
-      ap (object_at heap) (sym here ∙ place_is world state at.sound.cells at.known at.input at.correct at.stands.instance_of.shape heap at.stands.heap number object.0 p) ∙ p.found in
+      ap (object_at heap) (sym here ∙ place_is world state at.sound.cells at.input at.correct at.stands.instance_of.shape heap at.stands.heap number object.0 p) ∙ p.found in
       record {
         object = p.object;
         found = found;
@@ -218,7 +219,7 @@ module _ (world : World) (bounds : Bounds) (at : Situation world bounds) (bounde
   made_array such number o here inside =
       let made = there state.made number inside in
       let found : object_at heap o ≡ Some (made_at r made.0) =
-      ap (object_at heap) (sym here) ∙ made_there world state at.sound.cells at.known at.input at.correct at.stands.instance_of.shape heap at.stands.heap number ∙ ap (option_map (made_at r)) made.1 in
+      ap (object_at heap) (sym here) ∙ made_there world state at.sound.cells at.input at.correct at.stands.instance_of.shape heap at.stands.heap number ∙ ap (option_map (made_at r)) made.1 in
       record {
         object = made_at r made.0;
         found = found;
@@ -228,18 +229,18 @@ module _ (world : World) (bounds : Bounds) (at : Situation world bounds) (bounde
             (made_alike such (values_of_sym r made.0.values) made.0.kind (length made.0.values) (length-map made.0.values (value_of_sym r))));
       }
 
-  pub array_is : (such : JType → Bool) (value : SymValue) (o : ℕ) → IsSymValue world state value → value_of_sym r value ≡ Ref o → IsArrayOf such value o
+  pub array_is : (such : JType → Bool) (value : SymValue) (o : ℕ) → IsClosed value → IsSymValue world state value → value_of_sym r value ≡ Ref o → IsArrayOf such value o
   unfolding reading_at
-  array_is such (Int t) o is e = absurd cc
-  array_is such Null o is e = absurd cc
-  array_is such (Obj n) o is e = (let here : place_at places n ≡ o = cc in seen_array such n o here is)
-  array_is such (New n) o is e = (let here : inputs + literals + n ≡ o = cc in made_array such n o here is)
-  array_is such (Literal n) o is e =
+  array_is such (Int t) o closed is e = absurd cc
+  array_is such Null o closed is e = absurd cc
+  array_is such (Obj n) o closed is e = (let here : place_at places n ≡ o = cc in seen_array such n o here is)
+  array_is such (New n) o closed is e = (let here : inputs + literals + n ≡ o = cc in made_array such n o here is)
+  array_is such (Literal n) o closed is e =
       let here : inputs + n ≡ o = cc in
       let found : object_at heap o ≡ Some literal =
-      ap (object_at heap) (sym here) ∙ literal_there world state at.sound.cells at.known at.input at.correct at.stands.instance_of.shape heap at.stands.heap n is in
+      ap (object_at heap) (sym here) ∙ literal_there world state at.sound.cells at.input at.correct at.stands.instance_of.shape heap at.stands.heap n is in
       record { object = literal; found = found; alike = alike_at such o literal (array_of state such (Literal n)) found tt }
-  array_is such (Loc n) o is e = absurd (no_loc world state at.sound.cells at.known at.input at.correct at.stands.instance_of.shape heap at.stands.heap n is)
+  array_is such (Loc n) o closed is e = absurd (none-some n (sym closed))
 
   -- ---- its elements
 
@@ -282,7 +283,7 @@ module _ (world : World) (bounds : Bounds) (at : Situation world bounds) (bounde
       let p = placed number expected.0 expected.1 in
       let row = there state.cells number (omega (arith, inside, at.sound.cells.count)) in
       let lies : object_at heap o ≡ Some p.object =
-      ap (object_at heap) (sym here ∙ place_is world state at.sound.cells at.known at.input at.correct at.stands.instance_of.shape heap at.stands.heap number expected.0 p) ∙ p.found in
+      ap (object_at heap) (sym here ∙ place_is world state at.sound.cells at.input at.correct at.stands.instance_of.shape heap at.stands.heap number expected.0 p) ∙ p.found in
       let known : array_with such (component_in expected.0.kind) (length_seen expected.0.kind expected.0.length) ≡ Some array = ap (seen_of such) (sym expected.1) ∙ is in
       let size : length row.0 ≡ length p.object.values =
       as_many such p.object.values expected.0.kind expected.0.length (length row.0) array (at.sound.cells.each number expected.0 row.0 expected.1 row.1).0 p.elements known in
@@ -294,7 +295,7 @@ module _ (world : World) (bounds : Bounds) (at : Situation world bounds) (bounde
   made_held number o object here inside found place =
       let made = there state.made number inside in
       let lies : object_at heap o ≡ Some (made_at r made.0) =
-      ap (object_at heap) (sym here) ∙ made_there world state at.sound.cells at.known at.input at.correct at.stands.instance_of.shape heap at.stands.heap number ∙ ap (option_map (made_at r)) made.1 in
+      ap (object_at heap) (sym here) ∙ made_there world state at.sound.cells at.input at.correct at.stands.instance_of.shape heap at.stands.heap number ∙ ap (option_map (made_at r)) made.1 in
       subst (λ (x : Object). slice_get x.values place ≡ option_map (value_of_sym r) (held_in state (New number) place)) (same_Some (made_at r made.0) object (sym lies ∙ found))
       (slice_get-map (value_of_sym r) made.0.values place
       ∙ ap (λ (it : Option SymObject). option_map (value_of_sym r) (option_and_then (λ (x : SymObject). slice_get x.values place) it)) (sym made.1))
@@ -313,8 +314,7 @@ module _ (world : World) (bounds : Bounds) (at : Situation world bounds) (bounde
       let here : inputs + literals + n ≡ o = cc in
       made_held n o it.object here is it.found place
   element_held such (Literal n) o array is e it found place told = absurd cc
-  element_held such (Loc n) o array is e it found place told =
-      absurd (no_loc world state at.sound.cells at.known at.input at.correct at.stands.instance_of.shape heap at.stands.heap n is)
+  element_held such (Loc n) o array is e it found place told = absurd cc
 
   -- ---- the place of an element
 
@@ -331,7 +331,7 @@ module _ (world : World) (bounds : Bounds) (at : Situation world bounds) (bounde
       let p = placed number expected.0 expected.1 in
       let row = there state.cells number (omega (arith, inside, at.sound.cells.count)) in
       let lies : object_at heap (place_at places number) ≡ Some p.object =
-      ap (object_at heap) (place_is world state at.sound.cells at.known at.input at.correct at.stands.instance_of.shape heap at.stands.heap number expected.0 p) ∙ p.found in
+      ap (object_at heap) (place_is world state at.sound.cells at.input at.correct at.stands.instance_of.shape heap at.stands.heap number expected.0 p) ∙ p.found in
       let by_object : array_with such (component_in expected.0.kind) (length_seen expected.0.kind expected.0.length) ≡ Some array = ap (seen_of such) (sym expected.1) ∙ is in
       let size : length row.0 ≡ length p.object.values =
       as_many such p.object.values expected.0.kind expected.0.length (length row.0) array (at.sound.cells.each number expected.0 row.0 expected.1 row.1).0 p.elements by_object in

@@ -1,5 +1,5 @@
 -- arraylength makes of a state what it makes of the configuration, with each symbolic value in the place of its value.
-use Rattle.std.proofs.Common.{◌≡◌, ℕ, pos, Bool, true, List, ◌∷◌, length, drop, slice_get, Option, Some, None, refl, sym, ap, subst, ◌∙◌}
+use Rattle.std.proofs.Common.{◌≡◌, ℕ, pos, Bool, true, List, [], ◌∷◌, length, drop, slice_get, Option, Some, None, refl, sym, ap, subst, ◌∙◌}
 use Rattle.std.specs.Option.{option_map, option_and_then}
 use Rattle.kb_heap.specs.declared.bounds.Bounds.{Bounds}
 use Rattle.kb_heap.specs.declared.heap.Value.{Value}
@@ -27,11 +27,12 @@ use Rattle.kb_frames.specs.StandsFor.{reading_at, value_of_sym, values_of_sym}
 use Rattle.kb_frames.specs.State.{State}
 use Rattle.kb_frames.specs.States.{IsSymValue}
 use Rattle.kb_frames.proofs.ItemLaws.{each_drop}
-use Rattle.kb_ways.specs.Operands.{a_reference}
 use Rattle.kb_ways.specs.Plans.{Planned, planned, pushes_term}
 use Rattle.kb_ways.specs.Ways.{Throws}
-use Rattle.kb_ways.proofs.KnownLaws.{stack_without}
-use Rattle.kb_ways.proofs.PlannedLaws.{IsPlan, Situation, fails_is, number_is, plain_is, reference_there, so, state_of, with_reference}
+use Rattle.kb_ways.specs.Known.{first_open}
+use Rattle.kb_ways.specs.Looked.{looked_operand}
+use Rattle.kb_ways.proofs.KnownLaws.{IsClosed, first_closed}
+use Rattle.kb_ways.proofs.PlannedLaws.{IsPlan, Situation, fails_is, known_reference_there, number_is, plain_is, so, state_of, with_known_reference}
 use Rattle.kb_ways.proofs.ReferenceLaws.{IsReference, referred}
 use Rattle.kb_picture.specs.Queries.{component_of as component_in}
 use Rattle.kb_steparray.specs.Arrays.{AreCounted, Array, array_of, array_with}
@@ -112,29 +113,25 @@ module _ (world : World) (bounds : Bounds) (at : Situation world bounds) (bounde
   by_array values None (Some array) alike = absurd alike
   by_array values (Some machine) None alike = absurd alike
 
-  named_is : (value : SymValue) (o : ℕ) → IsSymValue world state value → value_of_sym r value ≡ Ref o
+  named_is : (value : SymValue) (o : ℕ) → IsClosed value → IsSymValue world state value → value_of_sym r value ≡ Ref o
       → Is (on_array s c (Some o) any (λ of machine. told machine)) (planned state (length_of state value) counted)
-  named_is value o is e =
-      let it : IsArrayOf world bounds at bounded any value o = array_is world bounds at bounded any value o is e in
+  named_is value o closed is e =
+      let it : IsArrayOf world bounds at bounded any value o = array_is world bounds at bounded any value o closed is e in
       subst (λ (count : Option ℕ). Is (on_array s c (Some o) any (λ of machine. told machine)) (planned state count counted)) (sym (length_is state value))
       (by_array it.object.values (array_at c.heap o any) (array_of state any value) it.alike)
 
-  length_told : (value : SymValue) → IsReference value → IsSymValue world state value → Is (on_array s c (referred r value) any (λ of machine. told machine)) (tells_length_of state value)
-  length_told (Int t) kind is = absurd kind
-  length_told Null kind is = plain_is world bounds at next (throws s c null_pointer) (Throws null_pointer) refl
-  length_told (Obj n) kind is = named_is (Obj n) _ is refl
-  length_told (Literal n) kind is = named_is (Literal n) _ is refl
-  length_told (New n) kind is = named_is (New n) _ is refl
-  length_told (Loc n) kind is = named_is (Loc n) _ is refl
+  length_told : (value : SymValue) → IsClosed value → IsReference value → IsSymValue world state value → Is (on_array s c (referred r value) any (λ of machine. told machine)) (tells_length_of state value)
+  length_told (Int t) closed kind is = absurd kind
+  length_told Null closed kind is = plain_is world bounds at next (throws s c null_pointer) (Throws null_pointer) refl
+  length_told (Obj n) closed kind is = named_is (Obj n) _ closed is refl
+  length_told (Literal n) closed kind is = named_is (Literal n) _ closed is refl
+  length_told (New n) closed kind is = named_is (New n) _ closed is refl
+  length_told (Loc n) closed kind is = named_is (Loc n) _ closed is refl
 
-  -- by the operand of a stack
-  tells_on_is : Is (array_length s next c) (planned state (a_reference at.frame.stack) (tells_length_of state))
+  -- Where the array is not open, arraylength does to the state what it does to the configuration.
+  pub tells_length_is : first_open (looked_operand state) ≡ None → Is (array_length s next c) (tells_length state)
   unfolding array_length
-  tells_on_is =
-      with_reference world bounds at next (λ (t : Taken Reference). on_array s c t.it any (λ of machine. goes s c next (IntValue (pos (length machine.values)) ∷ t.rest))) (tells_length_of state)
-      (λ value e. (let there = reference_there world bounds at next 0 value e in length_told value there.0 there.1))
-
-  -- arraylength does to the state what it does to the configuration.
-  pub tells_length_is : Is (array_length s next c) (tells_length state)
-  tells_length_is =
-      subst (λ (stack : List SymValue). Is (array_length s next c) (planned state (a_reference stack) (tells_length_of state))) (sym (stack_without state at.known)) tells_on_is
+  tells_length_is quiet =
+      with_known_reference world bounds at next (λ (t : Taken Reference). on_array s c t.it any (λ of machine. goes s c next (IntValue (pos (length machine.values)) ∷ t.rest))) (tells_length_of state)
+      (λ value e. (let there = known_reference_there world bounds at next 0 value e in
+      length_told value (first_closed value [] (sym (ap (λ (it : Option SymValue). first_open (option_map_or (λ (x : SymValue). x ∷ []) it [])) e) ∙ quiet)) there.0 there.1))

@@ -12,4 +12,3 @@ pub mod StoreSteps
 pub mod ChoosingLaws
 pub mod HeldLaws
 pub mod OfferLaws
-pub mod LookedLaws

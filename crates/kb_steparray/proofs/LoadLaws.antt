@@ -1,6 +1,6 @@
 -- A load and arraylength make of a state what they make of the configuration, with each symbolic value in the place of its value:
 -- so a step of them goes where the machine's step goes.
-use Rattle.std.proofs.Common.{◌≡◌, ℕ, ℤ, List, ◌∷◌, length, drop, slice_get, Option, Some, None, refl, sym, ap, subst, ◌∙◌}
+use Rattle.std.proofs.Common.{◌≡◌, ℕ, ℤ, List, [], ◌∷◌, length, drop, slice_get, Option, Some, None, refl, sym, ap, ◌∙◌}
 use Rattle.std.specs.Option.{option_map, option_map_or}
 use Rattle.kb_code.specs.declared.instruction.Elem.{Elem}
 use Rattle.kb_heap.specs.declared.bounds.Bounds.{Bounds}
@@ -24,11 +24,13 @@ use Rattle.kb_frames.specs.States.{IsSymValue}
 use Rattle.kb_ways.specs.Plans.{Planned, plain, planned}
 use Rattle.kb_ways.specs.Slots.{held_in}
 use Rattle.kb_ways.specs.Ways.{Throws, with_stack}
-use Rattle.kb_ways.proofs.KnownLaws.{stack_without}
-use Rattle.kb_ways.proofs.PlannedLaws.{IsPlan, Situation, fails_is, plain_is, reference_there, so, stack_is, state_of, with_is}
+use Rattle.kb_ways.specs.Known.{first_open, known_stack}
+use Rattle.kb_ways.proofs.KnownLaws.{IsClosed, first_closed, rest_same}
+use Rattle.kb_ways.proofs.PlannedLaws.{IsPlan, Situation, fails_is, known_is, known_reference_there, plain_is, so, stack_is, state_of, with_is}
 use Rattle.kb_ways.proofs.ReferenceLaws.{IsReference, referred}
 use Rattle.kb_steparray.specs.Arrays.{AreCounted, Array, array_of}
 use Rattle.kb_steparray.specs.Effects.{load_at, load_chosen, load_from, loads_element}
+use Rattle.kb_steparray.specs.Looked.{looked_by_load}
 use Rattle.kb_steparray.specs.Operands.{an_element}
 use Rattle.kb_steparray.specs.Questions.{asks_element}
 use Rattle.kb_steparray.proofs.ArrayLaws.{AreAlike, AreElements, IsArrayOf, array_is, element_held}
@@ -80,9 +82,9 @@ module _ (world : World) (bounds : Bounds) (at : Situation world bounds) (bounde
 
   -- ---- an array that is there
 
-  module _ (elem : Elem) (value : SymValue) (o : ℕ) (is : IsSymValue world state value) (named : value_of_sym r value ≡ Ref o) (index : ℤ) where
+  module _ (elem : Elem) (value : SymValue) (o : ℕ) (closed : IsClosed value) (is : IsSymValue world state value) (named : value_of_sym r value ≡ Ref o) (index : ℤ) where
     it : IsArrayOf world bounds at bounded (takes_component elem) value o
-    it = array_is world bounds at bounded (takes_component elem) value o is named
+    it = array_is world bounds at bounded (takes_component elem) value o closed is named
 
     abbrev of_machine : ℕ → List Value → Option ℕ → Outcome
     of_machine place values found = option_map_or (λ p. with s c (slice_get values p) (λ v. goes s c next (v ∷ rest))) found (throws s c index_outside)
@@ -117,37 +119,39 @@ module _ (world : World) (bounds : Bounds) (at : Situation world bounds) (bounde
   TellsAll elem value index =
       (a : Array) → array_of state (takes_component elem) value ≡ Some a → IsPlaceTold index a.length state.chosen × IsElementTold state value a.component state.chosen
 
-  from_is : (elem : Elem) (value : SymValue) (index : ℤ) → IsReference value → IsSymValue world state value → TellsAll elem value index
+  from_is : (elem : Elem) (value : SymValue) (index : ℤ) → IsClosed value → IsReference value → IsSymValue world state value → TellsAll elem value index
       → Is (on_array s c (referred r value) (takes_component elem) (λ of machine. placed_at machine index)) (load_from state elem value)
-  from_is elem (Int t) index kind is told = absurd kind
-  from_is elem Null index kind is told = plain_is world bounds at next (throws s c null_pointer) (Throws null_pointer) refl
-  from_is elem (Obj n) index kind is told = named_is elem (Obj n) _ is refl index told
-  from_is elem (Literal n) index kind is told = named_is elem (Literal n) _ is refl index told
-  from_is elem (New n) index kind is told = named_is elem (New n) _ is refl index told
-  from_is elem (Loc n) index kind is told = named_is elem (Loc n) _ is refl index told
+  from_is elem (Int t) index closed kind is told = absurd kind
+  from_is elem Null index closed kind is told = plain_is world bounds at next (throws s c null_pointer) (Throws null_pointer) refl
+  from_is elem (Obj n) index closed kind is told = named_is elem (Obj n) _ closed is refl index told
+  from_is elem (Literal n) index closed kind is told = named_is elem (Literal n) _ closed is refl index told
+  from_is elem (New n) index closed kind is told = named_is elem (New n) _ closed is refl index told
+  from_is elem (Loc n) index closed kind is told = named_is elem (Loc n) _ closed is refl index told
 
   -- ---- the instruction
 
   abbrev loads : Elem → Taken (Reference × ℤ) → Outcome
   loads elem t = on_array s c t.it.0 (takes_component elem) (λ o array. on_place s c array t.it.1 (λ place. with s c (slice_get array.values place) (λ v. goes s c next (v ∷ t.rest))))
 
-  -- by the operands of a stack
-  abbrev loads_on : Elem → List SymValue → Planned
-  loads_on elem stack = planned state (an_element stack) (λ (t : SymValue × TermId). load_from state elem t.0)
+  -- the array as it is known, and the index, with what is left below them
+  pub operands_known : machine_element c.frame.stack ≡ option_map (element_of r at.frame.stack) (an_element (known_stack state))
+  operands_known = ap machine_element (known_is world bounds at next) ∙ (element_is r (known_stack state) ∙ below (an_element (known_stack state))) where
+    below : (it : Option (SymValue × TermId)) → option_map (element_of r (known_stack state)) it ≡ option_map (element_of r at.frame.stack) it
+    below None = refl
+    below (Some t) = ap (λ (left : List Value). Some (record { it = (referred r t.0, int_value r t.1); rest = left })) (rest_same world state at.input at.stands.instance_of 2)
 
-  loads_on_is : (elem : Elem) → ((t : SymValue × TermId) → an_element at.frame.stack ≡ Some t → TellsAll elem t.0 (int_value r t.1)) → Is (load_element elem s next c) (loads_on elem at.frame.stack)
-  unfolding load_element
-  loads_on_is elem told =
-      so world bounds at next (with s c (machine_element c.frame.stack) (loads elem)) (with s c (option_map (element_of r at.frame.stack) (an_element at.frame.stack)) (loads elem))
-      (loads_on elem at.frame.stack)
-      (ap (λ (it : Option (Taken (Reference × ℤ))). with s c it (loads elem)) (ap machine_element at.stands.stage.0.stack ∙ element_is r at.frame.stack))
-      (with_is world bounds at next (element_of r at.frame.stack) (loads elem) (λ (t : SymValue × TermId). load_from state elem t.0) (an_element at.frame.stack) taken)
-    where
-      taken : (t : SymValue × TermId) → an_element at.frame.stack ≡ Some t → Is (loads elem (element_of r at.frame.stack t)) (load_from state elem t.0)
-      taken t e = (let there = reference_there world bounds at next 1 t.0 (two_parts at.frame.stack t e).array in from_is elem t.0 (int_value r t.1) there.0 there.1 (told t e))
-
-  -- Where the place is told, and the element there, a load does to the state what it does to the configuration.
-  pub loads_element_is : (elem : Elem) → ((t : SymValue × TermId) → an_element at.frame.stack ≡ Some t → TellsAll elem t.0 (int_value r t.1))
+  -- Where the array is not open, the place is told, and the element there, a load does to the state what it does to the
+  -- configuration.
+  pub loads_element_is : (elem : Elem) → first_open (looked_by_load state) ≡ None → ((t : SymValue × TermId) → an_element (known_stack state) ≡ Some t → TellsAll elem t.0 (int_value r t.1))
       → Is (load_element elem s next c) (loads_element state elem)
-  loads_element_is elem told =
-      subst (λ (stack : List SymValue). Is (load_element elem s next c) (loads_on elem stack)) (sym (stack_without state at.known)) (loads_on_is elem told)
+  unfolding load_element
+  loads_element_is elem quiet told =
+      so world bounds at next (with s c (machine_element c.frame.stack) (loads elem)) (with s c (option_map (element_of r at.frame.stack) (an_element (known_stack state))) (loads elem)) (loads_element state elem)
+      (ap (λ (it : Option (Taken (Reference × ℤ))). with s c it (loads elem)) operands_known)
+      (with_is world bounds at next (element_of r at.frame.stack) (loads elem) (λ (t : SymValue × TermId). load_from state elem t.0) (an_element (known_stack state)) taken)
+    where
+      taken : (t : SymValue × TermId) → an_element (known_stack state) ≡ Some t → Is (loads elem (element_of r at.frame.stack t)) (load_from state elem t.0)
+      taken t e =
+          let there = known_reference_there world bounds at next 1 t.0 (two_parts (known_stack state) t e).array in
+          let closed : IsClosed t.0 = first_closed t.0 [] (sym (ap (λ (it : Option (SymValue × TermId)). first_open (option_map_or (λ (x : SymValue × TermId). x.0 ∷ []) it [])) e) ∙ quiet) in
+          from_is elem t.0 (int_value r t.1) closed there.0 there.1 (told t e)

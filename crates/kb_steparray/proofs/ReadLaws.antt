@@ -11,7 +11,7 @@ use Rattle.kb_names.specs.declared.types.JType.{JType}
 use Rattle.kb_semantics.specs.Config.{Setting, Config}
 use Rattle.kb_semantics.specs.Instructions.{Elements, array_at, place_in_array}
 use Rattle.kb_semantics.specs.Looks.{Slot, at_most_one, element_slot, if_some, read_by}
-use Rattle.kb_semantics.specs.Operands.{Reference, Taken, an_element as machine_element}
+use Rattle.kb_semantics.specs.Operands.{Reference, Taken}
 use Rattle.kb_semantics.specs.Values.{takes_component}
 use Rattle.kb_terms.specs.declared.node.TermId.{TermId}
 use Rattle.kb_picture.specs.Endings.{Reading}
@@ -25,7 +25,10 @@ use Rattle.kb_ways.proofs.ReferenceLaws.{reference_in, referred}
 use Rattle.kb_steparray.specs.Arrays.{AreCounted, Array, array_of}
 use Rattle.kb_steparray.specs.Operands.{an_element}
 use Rattle.kb_steparray.proofs.ArrayLaws.{AreAlike, IsArrayOf, array_is}
-use Rattle.kb_steparray.proofs.OperandLaws.{element_is, element_of, int_value}
+use Rattle.kb_ways.specs.Known.{known_stack}
+use Rattle.kb_ways.proofs.KnownLaws.{IsClosed}
+use Rattle.kb_steparray.proofs.LoadLaws.{operands_known}
+use Rattle.kb_steparray.proofs.OperandLaws.{element_of, int_value}
 
 module _ (world : World) (bounds : Bounds) (at : Situation world bounds) (bounded : AreCounted at.base.picture) where
   abbrev s : Setting
@@ -40,7 +43,7 @@ module _ (world : World) (bounds : Bounds) (at : Situation world bounds) (bounde
   abbrev r : Reading
   r = reading_at world state at.input at.stands.instance_of.shape.places
 
-  module _ (elem : Elem) (value : SymValue) (x : TermId) (a : Array) (place o : ℕ) (is : IsSymValue world state value) (named : value_of_sym r value ≡ Ref o)
+  module _ (elem : Elem) (value : SymValue) (x : TermId) (a : Array) (place o : ℕ) (closed : IsClosed value) (is : IsSymValue world state value) (named : value_of_sym r value ≡ Ref o)
       (found : array_of state (takes_component elem) value ≡ Some a) (placed : place_in_array (int_value r x) a.length ≡ Some place) where
     abbrev such : JType → Bool
     such = takes_component elem
@@ -49,7 +52,7 @@ module _ (world : World) (bounds : Bounds) (at : Situation world bounds) (bounde
     its = record { object = o; slot = place }
 
     it : IsArrayOf world bounds at bounded such value o
-    it = array_is world bounds at bounded such value o is named
+    it = array_is world bounds at bounded such value o closed is named
 
     abbrev slot_in : Option Elements → Option Slot
     slot_in machine = option_and_then (λ (m : Elements). option_map (λ (p : ℕ). record { object = o; slot = p }) (place_in_array (int_value r x) (length m.values))) machine
@@ -69,8 +72,8 @@ module _ (world : World) (bounds : Bounds) (at : Situation world bounds) (bounde
     slot_is = ap (λ (it : Reference). element_slot c it such (int_value r x)) (ap reference_in named) ∙ in_array (array_at c.heap o such) (array_of state such value) it.alike found
 
     -- It is what the load reads.
-    pub element_read : an_element at.frame.stack ≡ Some (value, x) → read_by (instrs.LoadElem elem) s c ≡ its ∷ []
+    pub element_read : an_element (known_stack state) ≡ Some (value, x) → read_by (instrs.LoadElem elem) s c ≡ its ∷ []
     element_read operands =
         ap (λ (t : Option (Taken (Reference × ℤ))). if_some t (λ (y : Taken (Reference × ℤ)). at_most_one (element_slot c y.it.0 such y.it.1)))
-        (ap machine_element at.stands.stage.0.stack ∙ (element_is r at.frame.stack ∙ ap (option_map (element_of r at.frame.stack)) operands))
+        (operands_known world bounds at bounded 0 ∙ ap (option_map (element_of r at.frame.stack)) operands)
         ∙ ap at_most_one slot_is

@@ -14,12 +14,15 @@ use Rattle.kb_semantics.specs.Values.{takes_component}
 use Rattle.kb_terms.specs.declared.node.TermId.{TermId}
 use Rattle.kb_picture.specs.Endings.{Reading}
 use Rattle.kb_frames.specs.declared.value.SymValue.{SymValue}
-use Rattle.kb_frames.specs.declared.value.SymValue.TheVariants.{Int}
+use Rattle.kb_frames.specs.declared.value.SymValue.TheVariants.{Int, Null, Obj, Literal, New, Loc}
 use Rattle.kb_frames.specs.Arrays.{IsPlaceAmong, IsPlaceNext, array_next, array_on, index_next, index_on, length_of}
 use Rattle.kb_frames.specs.Next.{instruction_next}
 use Rattle.kb_frames.specs.StandsFor.{IsIndexNext, reading_at, value_of_sym}
 use Rattle.kb_frames.specs.State.{State}
+use Rattle.std.proofs.lemmas.Option.{same_Some}
+use Rattle.kb_ways.specs.Known.{known, known_stack}
 use Rattle.kb_ways.proofs.KeptLaws.{reference_is}
+use Rattle.kb_ways.proofs.KnownLaws.{int_known, known_there}
 use Rattle.kb_ways.proofs.PlannedLaws.{Situation, state_of}
 use Rattle.kb_ways.specs.declared.question.Question.TheVariants as questions
 use Rattle.kb_steparray.specs.Arrays.{AreCounted, Array, array_of}
@@ -43,18 +46,28 @@ module _ (world : World) (bounds : Bounds) (at : Situation world bounds) (bounde
   -- ---- the place that was chosen
 
   module _ (instr : Instr) (here : instruction_next world state.method state.stage ≡ Some instr) (array : SymValue) (x : TermId) (count : ℕ)
-      (index_here : index_on at.frame.stack instr ≡ Some (Int x)) (array_here : array_on at.frame.stack instr ≡ Some array) (long : length_of state array ≡ Some count) where
+      (index_here : index_on at.frame.stack instr ≡ Some (Int x)) (array_here : option_map (known state) (array_on at.frame.stack instr) ≡ Some array) (long : length_of state array ≡ Some count) where
     index_is : index_next world state.method state.stage ≡ Some (Int x)
     index_is = ap (option_and_then (index_on at.frame.stack)) here ∙ index_here
 
-    array_is : array_next world state.method state.stage ≡ Some array
-    array_is = ap (option_and_then (array_on at.frame.stack)) here ∙ array_here
+    array_is : option_map (known state) (array_next world state.method state.stage) ≡ Some array
+    array_is = ap (λ (it : Option Instr). option_map (known state) (option_and_then (array_on at.frame.stack) it)) here ∙ array_here
+
+    -- an array that has places is known by its own name
+    place_among : (own : Option SymValue) → option_map (known state) own ≡ Some array → (place : ℕ) → IsPlaceAmong (option_and_then (length_of state) own) place → place < count
+    place_among None e place inside = absurd inside
+    place_among (Some (Obj n)) e place inside = subst (λ (it : Option ℕ). IsPlaceAmong it place) (ap (length_of state) (same_Some (Obj n) array e) ∙ long) inside
+    place_among (Some (New n)) e place inside = subst (λ (it : Option ℕ). IsPlaceAmong it place) (ap (length_of state) (same_Some (New n) array e) ∙ long) inside
+    place_among (Some (Int t)) e place inside = absurd inside
+    place_among (Some Null) e place inside = absurd inside
+    place_among (Some (Literal n)) e place inside = absurd inside
+    place_among (Some (Loc n)) e place inside = absurd inside
 
     -- it is a place of the array, and the index is that place
     pub chosen_told : (place : ℕ) → state.chosen ≡ Some place → place_in_array (int_value r x) count ≡ Some place
     chosen_told place chosen =
         let inside : IsPlaceNext world state place = subst (λ (it : Option ℕ). IfSome it (IsPlaceNext world state)) chosen at.sound.chosen in
-        let less : place < count = subst (λ (it : Option ℕ). IsPlaceAmong it place) (ap (option_and_then (length_of state)) array_is ∙ long) inside in
+        let less : place < count = place_among (array_next world state.method state.stage) array_is place inside in
         let valued : IsIndexNext world r state place = subst (λ (it : Option ℕ). IfSome it (IsIndexNext world r state)) chosen at.stands.chosen in
         let same : Some (value_of_sym r (Int x)) ≡ Some (IntValue (pos place)) = sym (ap (option_map (value_of_sym r)) index_is) ∙ valued in
         place_told (int_value r x) count place (int_same (int_value r x) (pos place) same) less
@@ -64,9 +77,16 @@ module _ (world : World) (bounds : Bounds) (at : Situation world bounds) (bounde
 
   -- ---- loads and stores
 
+  -- what is known so deep on the stack, by the name that it has there
+  own_int : (depth : ℕ) (x : TermId) → slice_get (known_stack state) depth ≡ Some (Int x) → slice_get at.frame.stack depth ≡ Some (Int x)
+  own_int depth x e = int_known state (slice_get at.frame.stack depth) x (sym (known_there state depth) ∙ e)
+
+  own_value : (depth : ℕ) (value : SymValue) → slice_get (known_stack state) depth ≡ Some value → option_map (known state) (slice_get at.frame.stack depth) ≡ Some value
+  own_value depth value e = sym (known_there state depth) ∙ e
+
   -- A load that asks nothing has been told its place, and what lies there.
-  pub load_told : (elem : Elem) → instruction_next world state.method state.stage ≡ Some (instrs.LoadElem elem) → asks_load state elem (an_element at.frame.stack) ≡ None
-      → (t : SymValue × TermId) → an_element at.frame.stack ≡ Some t → (a : Array) → array_of state (takes_component elem) t.0 ≡ Some a
+  pub load_told : (elem : Elem) → instruction_next world state.method state.stage ≡ Some (instrs.LoadElem elem) → asks_load state elem (an_element (known_stack state)) ≡ None
+      → (t : SymValue × TermId) → an_element (known_stack state) ≡ Some t → (a : Array) → array_of state (takes_component elem) t.0 ≡ Some a
       → IsPlaceTold (int_value r t.1) a.length state.chosen × IsElementTold state t.0 a.component state.chosen
   load_told elem here quiet t e a found = go state.chosen refl asks where
     asks : asks_place state t.0 t.1 a state.chosen ≡ None
@@ -77,15 +97,16 @@ module _ (world : World) (bounds : Bounds) (at : Situation world bounds) (bounde
     go : (chosen : Option ℕ) → state.chosen ≡ chosen → asks_place state t.0 t.1 a chosen ≡ None → IsPlaceTold (int_value r t.1) a.length chosen × IsElementTold state t.0 a.component chosen
     go None is none = absurd cc
     go (Some place) is none =
-        let parts = two_parts at.frame.stack t e in (
-          chosen_told (instrs.LoadElem elem) here t.0 t.1 a.length (int_there (slice_get at.frame.stack 0) t.1 parts.index) (reference_is (slice_get at.frame.stack 1) t.0 parts.array)
+        let parts = two_parts (known_stack state) t e in (
+          chosen_told (instrs.LoadElem elem) here t.0 t.1 a.length (own_int 0 t.1 (int_there (slice_get (known_stack state) 0) t.1 parts.index))
+              (own_value 1 t.0 (reference_is (slice_get (known_stack state) 1) t.0 parts.array))
               (long_as state (takes_component elem) t.0 a found) place is,
           none,
         )
 
   -- A store that asks nothing has been told its place.
-  pub store_told : (elem : Elem) → instruction_next world state.method state.stage ≡ Some (instrs.StoreElem elem) → asks_store state elem (an_element_and_value elem at.frame.stack) ≡ None
-      → (t : SymValue × TermId × SymValue) → an_element_and_value elem at.frame.stack ≡ Some t → (a : Array) → array_of state (takes_component elem) t.0 ≡ Some a
+  pub store_told : (elem : Elem) → instruction_next world state.method state.stage ≡ Some (instrs.StoreElem elem) → asks_store state elem (an_element_and_value elem (known_stack state)) ≡ None
+      → (t : SymValue × TermId × SymValue) → an_element_and_value elem (known_stack state) ≡ Some t → (a : Array) → array_of state (takes_component elem) t.0 ≡ Some a
       → IsPlaceTold (int_value r t.1) a.length state.chosen
   store_told elem here quiet t e a found = go state.chosen refl asks where
     asks : asks_unless state.chosen (questions.Index t.1 a.length) ≡ None
@@ -96,6 +117,7 @@ module _ (world : World) (bounds : Bounds) (at : Situation world bounds) (bounde
     go : (chosen : Option ℕ) → state.chosen ≡ chosen → asks_unless chosen (questions.Index t.1 a.length) ≡ None → IsPlaceTold (int_value r t.1) a.length chosen
     go None is none = absurd cc
     go (Some place) is none =
-        let parts = three_parts elem at.frame.stack t e in
-        chosen_told (instrs.StoreElem elem) here t.0 t.1 a.length (int_there (slice_get at.frame.stack 1) t.1 parts.index) (reference_is (slice_get at.frame.stack 2) t.0 parts.array)
+        let parts = three_parts elem (known_stack state) t e in
+        chosen_told (instrs.StoreElem elem) here t.0 t.1 a.length (own_int 1 t.1 (int_there (slice_get (known_stack state) 1) t.1 parts.index))
+        (own_value 2 t.0 (reference_is (slice_get (known_stack state) 2) t.0 parts.array))
         (long_as state (takes_component elem) t.0 a found) place is

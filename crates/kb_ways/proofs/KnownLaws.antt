@@ -23,9 +23,7 @@ use Rattle.kb_frames.proofs.ResolveLaws.{instance_same}
 use Rattle.kb_classes.specs.Options.{or_else}
 use Rattle.kb_ways.specs.Known.{first_open, known, known_stack, open_loc}
 use Rattle.kb_ways.specs.Identity.{same}
-use Rattle.kb_ways.specs.Looked.{both_sides, is_of_input, is_one_location, looked_operand}
-use Rattle.kb_ways.specs.Operands.{a_reference}
-use Rattle.kb_ways.proofs.KeptLaws.{reference_is}
+use Rattle.kb_ways.specs.Looked.{both_sides}
 use Rattle.kb_ways.proofs.ReferenceLaws.{IsReference}
 use Rattle.kb_ways.specs.Needs.{HasTerms, IsTermOf}
 
@@ -153,24 +151,6 @@ first_closed value others e = go (open_loc value) e where
 
 pub others_closed : (value : SymValue) (others : List SymValue) → first_open (value ∷ others) ≡ None → first_open others ≡ None
 others_closed value others e = sym (ap (λ (it : Option ℕ). or_else it (first_open others)) (first_closed value others e)) ∙ e
-
-pub one_closed : (value : SymValue) → IsClosed value → first_open (value ∷ []) ≡ None
-one_closed value closed = ap (λ (it : Option ℕ). or_else it None) closed
-
-pub two_closed : (one other : SymValue) → IsClosed one → IsClosed other → first_open (one ∷ other ∷ []) ≡ None
-two_closed one other closed also = ap (λ (it : Option ℕ). or_else it (first_open (other ∷ []))) closed ∙ one_closed other also
-
-pub sides_closed : (one other : SymValue) → IsClosed one → IsClosed other → first_open (both_sides one other) ≡ None
-sides_closed one other closed also = go (is_of_input one && is_of_input other && not (is_one_location one other)) where
-  go : (b : Bool) → first_open (if b then one ∷ other ∷ [] else []) ≡ None
-  go true = two_closed one other closed also
-  go false = refl
-
-pub operand_closed : (state : State) → Each IsClosed (known_stack state) → first_open (looked_operand state) ≡ None
-operand_closed state each = go (a_reference (known_stack state)) refl where
-  go : (it : Option SymValue) → a_reference (known_stack state) ≡ it → first_open (option_map_or (λ (value : SymValue). value ∷ []) it []) ≡ None
-  go None e = refl
-  go (Some value) e = one_closed value (each 0 value (reference_is (slice_get (known_stack state) 0) value e))
 
 -- where neither side is open, the table tells whether they are one
 pub sides_told : (one other : SymValue) → first_open (both_sides one other) ≡ None → (so : Bool) × (same one other ≡ Some so)
