@@ -1,7 +1,7 @@
 -- What an object to which a symbolic reference leads has in a field: what a state keeps of its slots is what the heap has there.
 use Rattle.std.proofs.Common.{◌≡◌, ℕ, zero, suc, ◌+◌, ◌<◌, Bool, true, false, List, [], ◌∷◌, length, slice_get, Option, Some, None, is_some, refl, sym, ap, subst, ◌∙◌, if◌then◌else◌, arith}
 use Rattle.std.specs.Option.{option_map, option_map_or, option_and_then}
-use Rattle.std.proofs.lemmas.Option.{slice_get-map, slice_get_within}
+use Rattle.std.proofs.lemmas.Option.{none-some, slice_get-map, slice_get_within}
 use Rattle.kb_heap.specs.declared.heap.Heap.{Heap}
 use Rattle.kb_heap.specs.declared.heap.Input.{Input}
 use Rattle.kb_heap.specs.declared.heap.Object.{Object}
@@ -28,11 +28,12 @@ use Rattle.kb_frames.specs.Heaps.{find_cell, value_of_cell}
 use Rattle.kb_frames.specs.StandsFor.{HeapStandsFor, made_at, present_value, reading_at, value_of_sym, values_of_sym}
 use Rattle.kb_frames.specs.State.{State, cell_at}
 use Rattle.kb_frames.specs.States.{AreCells, HasCells, IsSymValue}
+use Rattle.kb_ways.proofs.KnownLaws.{IsClosed}
 use Rattle.kb_ways.proofs.OutcomeValues.{there}
 use Rattle.kb_stepref.specs.Fields.{cell_of, has_place, has_slot_of, held, made_value_of}
 use Rattle.kb_stepref.specs.Questions.{asks_cell, asks_field}
 use Rattle.kb_frames.proofs.CellLaws.{found_cell}
-pub use Rattle.kb_ways.proofs.ObjectLaws.{IsPlaced, get_dropped, literal_there, made_at_end, made_there, no_loc, object_placed, place_is, same_is}
+pub use Rattle.kb_ways.proofs.ObjectLaws.{IsPlaced, get_dropped, literal_there, made_at_end, made_there, object_placed, place_is, same_is}
 
 -- lists of one length have an item at the same places
 some_same : {A B : Type 0} (xs : List A) (ys : List B) (i : ℕ) → length xs ≡ length ys → is_some (slice_get xs i) ≡ is_some (slice_get ys i)
@@ -72,7 +73,7 @@ made_room world state field number e = go (has_slot_of world state field (New nu
 
 -- ---- fields
 
-module _ (world : World) (state : State) (cells : AreCells world state) (known : state.picture.locs ≡ []) (input : Input) (correct : IsTypeCorrect world state.method input)
+module _ (world : World) (state : State) (cells : AreCells world state) (input : Input) (correct : IsTypeCorrect world state.method input)
     (shape : HasShape state.picture input) (heap : Heap) (stands : HeapStandsFor (reading_at world state input shape.places) state (first_heap world input.heap) heap) where
   abbrev places : List ℕ
   places = shape.places.objects
@@ -90,7 +91,7 @@ module _ (world : World) (state : State) (cells : AreCells world state) (known :
   r = reading_at world state input shape.places
 
   placed : (number : ℕ) (expected : PicObject) → slice_get state.picture.objects number ≡ Some expected → IsPlaced world places inputs heap number expected
-  placed = object_placed world state cells known input correct shape heap stands
+  placed = object_placed world state cells input correct shape heap stands
 
   module _ (field : FieldSlot) where
     -- what an object of the heap has in the slot of the field
@@ -164,10 +165,10 @@ module _ (world : World) (state : State) (cells : AreCells world state) (known :
     -- at the place of an object of the picture
     at_place : (number : ℕ) (expected : PicObject) (p : IsPlaced world places inputs heap number expected) → in_heap (place_at places number) ≡ field_of world p.object field
     at_place number expected p =
-        ap in_heap (place_is world state cells known input correct shape heap stands number expected p) ∙ ap (option_and_then (λ (object : Object). field_of world object field)) p.found
+        ap in_heap (place_is world state cells input correct shape heap stands number expected p) ∙ ap (option_and_then (λ (object : Object). field_of world object field)) p.found
 
     made_held : (number : ℕ) → in_heap (inputs + literals + number) ≡ option_map (value_of_sym r) (made_value_of world state field number)
-    made_held number = ap (option_and_then (λ (object : Object). field_of world object field)) (made_there world state cells known input correct shape heap stands number) ∙ go (slice_get state.made number) where
+    made_held number = ap (option_and_then (λ (object : Object). field_of world object field)) (made_there world state cells input correct shape heap stands number) ∙ go (slice_get state.made number) where
       at : (made : SymObject) (b : Bool) → (if b then slice_get (values_of_sym r made.values) field.slot else None) ≡ option_map (value_of_sym r) (if b then slice_get made.values field.slot else None)
       at made true = slice_get-map (value_of_sym r) made.values field.slot
       at made false = refl
@@ -179,40 +180,40 @@ module _ (world : World) (state : State) (cells : AreCells world state) (known :
       go (Some made) = at made (has_field world made.kind field)
 
     literal_held : (number : ℕ) → number < literals → in_heap (inputs + number) ≡ None
-    literal_held number less = ap (option_and_then (λ (object : Object). field_of world object field)) (literal_there world state cells known input correct shape heap stands number less) ∙ go (has_field world literal.kind field) where
+    literal_held number less = ap (option_and_then (λ (object : Object). field_of world object field)) (literal_there world state cells input correct shape heap stands number less) ∙ go (has_field world literal.kind field) where
       go : (b : Bool) → (if b then slice_get literal.values field.slot else None) ≡ None
       go true = refl
       go false = refl
 
     -- Where nothing is to be told, the object to which a reference leads has in the slot of the field what the state keeps of
     -- it.
-    pub field_held : (value : SymValue) (o : ℕ) → IsSymValue world state value → value_of_sym r value ≡ Ref o → asks_field world state field (Some value) ≡ None
+    pub field_held : (value : SymValue) (o : ℕ) → IsClosed value → IsSymValue world state value → value_of_sym r value ≡ Ref o → asks_field world state field (Some value) ≡ None
         → option_and_then (λ (object : Object). field_of world object field) (object_at heap o) ≡ option_map (value_of_sym r) (held world state field value)
     unfolding reading_at
-    field_held (Int t) o is e told = absurd cc
-    field_held Null o is e told = absurd cc
-    field_held (Obj n) o is e told =
+    field_held (Int t) o closed is e told = absurd cc
+    field_held Null o closed is e told = absurd cc
+    field_held (Obj n) o closed is e told =
         let here : place_at places n ≡ o = cc in
         let object = there state.picture.objects n is in
         let p = placed n object.0 object.1 in
         ap in_heap (sym here) ∙ at_place n object.0 p ∙ object_held n object.0 object.1 p told
-    field_held (Literal n) o is e told = (let here : inputs + n ≡ o = cc in ap in_heap (sym here) ∙ literal_held n is)
-    field_held (New n) o is e told = (let here : inputs + literals + n ≡ o = cc in ap in_heap (sym here) ∙ made_held n)
-    field_held (Loc n) o is e told = absurd (no_loc world state cells known input correct shape heap stands n is)
+    field_held (Literal n) o closed is e told = (let here : inputs + n ≡ o = cc in ap in_heap (sym here) ∙ literal_held n is)
+    field_held (New n) o closed is e told = (let here : inputs + literals + n ≡ o = cc in ap in_heap (sym here) ∙ made_held n)
+    field_held (Loc n) o closed is e told = absurd (none-some n (sym closed))
 
     -- It has the slot where the state has a place for it.
-    pub field_there : (value : SymValue) (o : ℕ) → IsSymValue world state value → value_of_sym r value ≡ Ref o
+    pub field_there : (value : SymValue) (o : ℕ) → IsClosed value → IsSymValue world state value → value_of_sym r value ≡ Ref o
         → is_some (option_and_then (λ (object : Object). field_of world object field) (object_at heap o)) ≡ has_place world state field value
     unfolding reading_at
-    field_there (Int t) o is e = absurd cc
-    field_there Null o is e = absurd cc
-    field_there (Obj n) o is e =
+    field_there (Int t) o closed is e = absurd cc
+    field_there Null o closed is e = absurd cc
+    field_there (Obj n) o closed is e =
         let here : place_at places n ≡ o = cc in
         let object = there state.picture.objects n is in
         let p = placed n object.0 object.1 in
         ap (λ (i : ℕ). is_some (in_heap i)) (sym here) ∙ ap is_some (at_place n object.0 p) ∙ object_has_place n object.0 object.1 p
-    field_there (Literal n) o is e = (let here : inputs + n ≡ o = cc in ap (λ (i : ℕ). is_some (in_heap i)) (sym here) ∙ ap is_some (literal_held n is))
-    field_there (New n) o is e =
+    field_there (Literal n) o closed is e = (let here : inputs + n ≡ o = cc in ap (λ (i : ℕ). is_some (in_heap i)) (sym here) ∙ ap is_some (literal_held n is))
+    field_there (New n) o closed is e =
         let here : inputs + literals + n ≡ o = cc in
         ap (λ (i : ℕ). is_some (in_heap i)) (sym here) ∙ ap is_some (made_held n) ∙ some_of_map (value_of_sym r) (made_value_of world state field n)
-    field_there (Loc n) o is e = absurd (no_loc world state cells known input correct shape heap stands n is)
+    field_there (Loc n) o closed is e = absurd (none-some n (sym closed))

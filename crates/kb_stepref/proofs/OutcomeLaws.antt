@@ -73,7 +73,7 @@ use Rattle.kb_picture.specs.declared.choice.Choice.TheVariants.{Only}
 
 -- ---- in a frame
 
-module _ (world : World) (bounds : Bounds) (base : State) (frame : SymFrame) (callers : List SymFrame) (sound : Sound world (record base { stage = Runs frame callers })) (known : base.picture.locs ≡ []) (ordered : IsOrdered base.nodes)
+module _ (world : World) (bounds : Bounds) (base : State) (frame : SymFrame) (callers : List SymFrame) (sound : Sound world (record base { stage = Runs frame callers })) (ordered : IsOrdered base.nodes)
     (linked : IsLinked world) (bounded : AreCounted base.picture) (input : Input) (correct : IsTypeCorrect world base.method input) (c : Config)
     (stands : StandsFor (setting_of world bounds) (record base { stage = Runs frame callers }) input c) where
   abbrev s : Setting
@@ -99,7 +99,6 @@ module _ (world : World) (bounds : Bounds) (base : State) (frame : SymFrame) (ca
     input = input;
     config = c;
     sound = sound;
-    known = known;
     correct = correct;
     stands = stands;
   }
@@ -108,7 +107,7 @@ module _ (world : World) (bounds : Bounds) (base : State) (frame : SymFrame) (ca
   Follows take = (i : IsInstanceOf take.state input) → IsOutcome world bounds c take.state input i take.outcome
 
   -- a plan that writes nothing
-  plain_follows : (next : ℕ) (outcome : Outcome) (plan : Planned) → IsPlan world bounds base frame callers sound known input correct c stands next outcome plan → stores s c ≡ [] → step s c ≡ outcome
+  plain_follows : (next : ℕ) (outcome : Outcome) (plan : Planned) → IsPlan world bounds base frame callers sound input correct c stands next outcome plan → stores s c ≡ [] → step s c ≡ outcome
       → Follows (followed world bounds next plan)
   plain_follows next outcome plan is stored e =
       subst (λ (st : State). Follows (went world bounds next st plan.way)) (sym is.0)
@@ -118,29 +117,29 @@ module _ (world : World) (bounds : Bounds) (base : State) (frame : SymFrame) (ca
   carried_follows : (choice : Choice) (next : ℕ) (instr : Instr) → IsOnReferences world frame.method instr → IsTold world bounds at choice instr → stores s c ≡ stored_by instr s c → step s c ≡ effect instr s next c
       → Follows (followed world bounds next (plan_of world state choice instr))
   unfolding effect push_null load_reference store_reference if_same if_null return_reference throw get_field put_field
-  carried_follows choice next instrs.PushNull is told stored e = plain_follows next _ (pushes_null state) (pushes_null_is world bounds base frame callers sound known input correct c stands next) stored e
-  carried_follows choice next (instrs.LoadRef k) is told stored e = plain_follows next _ (loads world state k) (loads_is world bounds base frame callers sound known input correct c stands next k) stored e
-  carried_follows choice next (instrs.StoreRef k) is told stored e = plain_follows next _ (stores_sym world state k) (stores_is world bounds base frame callers sound known input correct c stands next k) stored e
-  carried_follows choice next (instrs.IfSame want target) is told stored e = plain_follows next _ (branches_same state want target) (branches_same_is world bounds base frame callers sound known input correct c stands next want target) stored e
-  carried_follows choice next (instrs.IfNull want target) is told stored e = plain_follows next _ (branches_null state want target) (branches_null_is world bounds base frame callers sound known input correct c stands next want target) stored e
-  carried_follows choice next instrs.ReturnRef is told stored e = plain_follows next _ (returns_reference world state) (returns_reference_is world bounds base frame callers sound known input correct c stands next) stored e
-  carried_follows choice next instrs.Throw is told stored e = plain_follows next _ (throws_top world state) (throws_top_is world bounds base frame callers sound known input correct c stands next linked) stored e
-  carried_follows choice next (instrs.GetField entry) is told stored e = plain_follows next _ (gets world state entry) (gets_is world bounds base frame callers sound known input correct c stands next entry told) stored e
-  carried_follows choice next (instrs.PutField entry) is told stored e = puts_follow world bounds at ordered next entry stored e
-  carried_follows choice next (instrs.Virtual entry) is told stored e = invokes_follow world bounds at next BySelection entry stored e
-  carried_follows choice next (instrs.Special entry) is told stored e = invokes_follow world bounds at next Special entry stored e
-  carried_follows choice next (instrs.Static entry) is told stored e = invokes_follow world bounds at next Static entry stored e
-  carried_follows choice next (instrs.Interface entry) is told stored e = invokes_follow world bounds at next BySelection entry stored e
+  carried_follows choice next instrs.PushNull is told stored e = plain_follows next _ (pushes_null state) (pushes_null_is world bounds base frame callers sound input correct c stands next) stored e
+  carried_follows choice next (instrs.LoadRef k) is told stored e = plain_follows next _ (loads world state k) (loads_is world bounds base frame callers sound input correct c stands next k) stored e
+  carried_follows choice next (instrs.StoreRef k) is told stored e = plain_follows next _ (stores_sym world state k) (stores_is world bounds base frame callers sound input correct c stands next k) stored e
+  carried_follows choice next (instrs.IfSame want target) is told stored e = plain_follows next _ (branches_same state want target) (branches_same_is world bounds base frame callers sound input correct c stands next want target told.quiet) stored e
+  carried_follows choice next (instrs.IfNull want target) is told stored e = plain_follows next _ (branches_null state want target) (branches_null_is world bounds base frame callers sound input correct c stands next want target) stored e
+  carried_follows choice next instrs.ReturnRef is told stored e = plain_follows next _ (returns_reference world state) (returns_reference_is world bounds base frame callers sound input correct c stands next) stored e
+  carried_follows choice next instrs.Throw is told stored e = plain_follows next _ (throws_top world state) (throws_top_is world bounds base frame callers sound input correct c stands next linked told.quiet) stored e
+  carried_follows choice next (instrs.GetField entry) is told stored e = plain_follows next _ (gets world state entry) (gets_is world bounds base frame callers sound input correct c stands next entry told.quiet told.beside) stored e
+  carried_follows choice next (instrs.PutField entry) is told stored e = puts_follow world bounds at ordered next entry told.quiet stored e
+  carried_follows choice next (instrs.Virtual entry) is told stored e = invokes_follow world bounds at next BySelection entry told.quiet stored e
+  carried_follows choice next (instrs.Special entry) is told stored e = invokes_follow world bounds at next Special entry told.quiet stored e
+  carried_follows choice next (instrs.Static entry) is told stored e = invokes_follow world bounds at next Static entry told.quiet stored e
+  carried_follows choice next (instrs.Interface entry) is told stored e = invokes_follow world bounds at next BySelection entry told.quiet stored e
   carried_follows choice next (instrs.New entry) is told stored e = makes_object_follows world bounds at next entry stored e
-  carried_follows choice next (instrs.LoadElem elem) is told stored e = plan_follows world bounds at next _ (loads_element state elem) (loads_element_is world bounds at bounded next elem told) stored e
-  carried_follows choice next (instrs.StoreElem elem) is told stored e = stores_element_follow world bounds at bounded ordered next elem told stored e
-  carried_follows choice next instrs.Length is told stored e = plan_follows world bounds at next _ (tells_length state) (tells_length_is world bounds at bounded next) stored e
-  carried_follows choice next (instrs.NewPrim code) is told stored e = makes_array_follows world bounds at next stored (component_of_code code) choice told e
+  carried_follows choice next (instrs.LoadElem elem) is told stored e = plan_follows world bounds at next _ (loads_element state elem) (loads_element_is world bounds at bounded next elem told.quiet told.beside) stored e
+  carried_follows choice next (instrs.StoreElem elem) is told stored e = stores_element_follow world bounds at bounded ordered next elem told.quiet told.beside stored e
+  carried_follows choice next instrs.Length is told stored e = plan_follows world bounds at next _ (tells_length state) (tells_length_is world bounds at bounded next told.quiet) stored e
+  carried_follows choice next (instrs.NewPrim code) is told stored e = makes_array_follows world bounds at next stored (component_of_code code) choice told.beside e
   carried_follows choice next (instrs.NewRefs entry) is told stored e =
-      makes_array_follows world bounds at next stored (component_of_entry world (here world state) entry) choice told
+      makes_array_follows world bounds at next stored (component_of_entry world (here world state) entry) choice told.beside
       (e ∙ ap (λ (m : MethodId). make_array (component_of_entry world (class_number world m) entry) s next c) framed.method)
-  carried_follows choice next (instrs.Cast entry) is told stored e = plan_follows world bounds at next _ (casts world state entry) (casts_is world bounds at next entry) stored e
-  carried_follows choice next (instrs.InstanceOf entry) is told stored e = plan_follows world bounds at next _ (tells_type world state entry) (tells_type_is world bounds at next entry) stored e
+  carried_follows choice next (instrs.Cast entry) is told stored e = plan_follows world bounds at next _ (casts world state entry) (casts_is world bounds at next entry told.quiet) stored e
+  carried_follows choice next (instrs.InstanceOf entry) is told stored e = plan_follows world bounds at next _ (tells_type world state entry) (tells_type_is world bounds at next entry told.quiet) stored e
   carried_follows choice next (instrs.Ldc entry) is told stored e =
       plan_follows world bounds at next _ (loads_literal world state entry) (loads_literal_is world bounds at next entry is.no_int is.there) stored e
   carried_follows choice next _ is told stored e = absurd (true≢false (sym is.reference))
@@ -176,7 +175,7 @@ AreTold world bounds state =
 abbrev pub FollowsAt : World → Bounds → Input → Config → Take → Type 0
 FollowsAt world bounds input c take = (i : IsInstanceOf take.state input) → IsOutcome world bounds c take.state input i take.outcome
 
-module _ (world : World) (bounds : Bounds) (old : State) (known : old.picture.locs ≡ []) (ordered : IsOrdered old.nodes) (linked : IsLinked world) (bounded : AreCounted old.picture) (input : Input) (correct : IsTypeCorrect world old.method input) (c : Config)
+module _ (world : World) (bounds : Bounds) (old : State) (ordered : IsOrdered old.nodes) (linked : IsLinked world) (bounded : AreCounted old.picture) (input : Input) (correct : IsTypeCorrect world old.method input) (c : Config)
     (within : nat_le bounds.run.steps old.carried ≡ false) (choice : Choice) where
   abbrev at_stage : Stage → State
   at_stage stage = record old { stage = stage }
@@ -193,7 +192,6 @@ module _ (world : World) (bounds : Bounds) (old : State) (known : old.picture.lo
       input = input;
       config = c;
       sound = sound;
-      known = known;
       correct = correct;
       stands = stands;
     }
@@ -210,15 +208,15 @@ module _ (world : World) (bounds : Bounds) (old : State) (known : old.picture.lo
 
   stage_follows : (stage : Stage) (frame : SymFrame) (callers : List SymFrame) → stage ≡ Runs frame callers → AreAllTold frame callers → Taken stage
   stage_follows stage frame callers is told =
-      subst Taken (sym is) (λ sound stands. frame_follows world bounds old frame callers sound known ordered linked bounded input correct c stands within choice (told sound stands))
+      subst Taken (sym is) (λ sound stands. frame_follows world bounds old frame callers sound ordered linked bounded input correct c stands within choice (told sound stands))
 
 -- The next instruction of a run whose arguments are read is taken up, where it has been told all.
 pub takes_up_follows : (world : World) (bounds : Bounds) (old : State) (frame : SymFrame) (callers : List SymFrame) → old.stage ≡ Runs frame callers
-    → (sound : Sound world old) (known : old.picture.locs ≡ []) (ordered : IsOrdered old.nodes) (linked : IsLinked world) (bounded : AreCounted old.picture) (input : Input) (correct : IsTypeCorrect world old.method input)
+    → (sound : Sound world old) (ordered : IsOrdered old.nodes) (linked : IsLinked world) (bounded : AreCounted old.picture) (input : Input) (correct : IsTypeCorrect world old.method input)
     → (c : Config) → StandsFor (setting_of world bounds) old input c → (within : nat_le bounds.run.steps old.carried ≡ false) (choice : Choice)
-    → AreAllTold world bounds old known ordered linked bounded input correct c within choice frame callers → FollowsAt world bounds input c (takes_up plan_of world bounds choice old)
-takes_up_follows world bounds old frame callers runs sound known ordered linked bounded input correct c stands within choice told =
-    stage_follows world bounds old known ordered linked bounded input correct c within choice old.stage frame callers runs told sound stands
+    → AreAllTold world bounds old ordered linked bounded input correct c within choice frame callers → FollowsAt world bounds input c (takes_up plan_of world bounds choice old)
+takes_up_follows world bounds old frame callers runs sound ordered linked bounded input correct c stands within choice told =
+    stage_follows world bounds old ordered linked bounded input correct c within choice old.stage frame callers runs told sound stands
 
 -- ---- a step without a question
 
@@ -226,10 +224,30 @@ takes_up_follows world bounds old frame callers runs sound known ordered linked 
 asked_begun : (world : World) (bounds : Bounds) (old : State) (instr : Instr) (stage : Stage) → asked_by bounds world (record old { stage = begun_stage world old stage }) instr ≡ asked_by bounds world (record old { stage = stage }) instr
 asked_begun world bounds old (instrs.GetField entry) (Begins read) = refl
 asked_begun world bounds old (instrs.GetField entry) (Runs frame others) = refl
+asked_begun world bounds old (instrs.PutField entry) (Begins read) = refl
+asked_begun world bounds old (instrs.PutField entry) (Runs frame others) = refl
 asked_begun world bounds old (instrs.LoadElem elem) (Begins read) = refl
 asked_begun world bounds old (instrs.LoadElem elem) (Runs frame others) = refl
 asked_begun world bounds old (instrs.StoreElem elem) (Begins read) = refl
 asked_begun world bounds old (instrs.StoreElem elem) (Runs frame others) = refl
+asked_begun world bounds old instrs.Length (Begins read) = refl
+asked_begun world bounds old instrs.Length (Runs frame others) = refl
+asked_begun world bounds old (instrs.Virtual entry) (Begins read) = refl
+asked_begun world bounds old (instrs.Virtual entry) (Runs frame others) = refl
+asked_begun world bounds old (instrs.Interface entry) (Begins read) = refl
+asked_begun world bounds old (instrs.Interface entry) (Runs frame others) = refl
+asked_begun world bounds old (instrs.Special entry) (Begins read) = refl
+asked_begun world bounds old (instrs.Special entry) (Runs frame others) = refl
+asked_begun world bounds old (instrs.Static entry) (Begins read) = refl
+asked_begun world bounds old (instrs.Static entry) (Runs frame others) = refl
+asked_begun world bounds old (instrs.Cast entry) (Begins read) = refl
+asked_begun world bounds old (instrs.Cast entry) (Runs frame others) = refl
+asked_begun world bounds old (instrs.InstanceOf entry) (Begins read) = refl
+asked_begun world bounds old (instrs.InstanceOf entry) (Runs frame others) = refl
+asked_begun world bounds old instrs.Throw (Begins read) = refl
+asked_begun world bounds old instrs.Throw (Runs frame others) = refl
+asked_begun world bounds old (instrs.IfSame want target) (Begins read) = refl
+asked_begun world bounds old (instrs.IfSame want target) (Runs frame others) = refl
 asked_begun world bounds old (instrs.NewPrim code) (Begins read) = refl
 asked_begun world bounds old (instrs.NewPrim code) (Runs frame others) = refl
 asked_begun world bounds old (instrs.NewRefs entry) (Begins read) = refl
@@ -288,8 +306,8 @@ module _ (world : World) (bounds : Bounds) (old : State) (at : IsAtReferences wo
         → FollowsAt world bounds input c (if b then record { state = old; outcome = Cut Steps } else takes_up plan_of world bounds Only (begun world old))
     by_steps true e quiet = λ i. cut_by_steps world bounds old input c stands (leb-true bounds.run.steps old.carried e)
     by_steps false e quiet =
-        stage_follows world bounds old at.known (pool_ordered old.nodes at.reached.sound.pool) at.linked at.bounded input correct c e Only (begun_stage world old old.stage) run.frame run.callers run.is
-        (quiet_all_told world bounds old at.known (pool_ordered old.nodes at.reached.sound.pool) at.linked at.bounded input correct c e Only run.frame run.callers
+        stage_follows world bounds old (pool_ordered old.nodes at.reached.sound.pool) at.linked at.bounded input correct c e Only (begun_stage world old old.stage) run.frame run.callers run.is
+        (quiet_all_told world bounds old (pool_ordered old.nodes at.reached.sound.pool) at.linked at.bounded input correct c e Only run.frame run.callers
         (subst (λ (stage : Stage). AreTold world bounds (record old { stage = stage })) run.is (begun_told quiet)))
         (begun_sound world old sound none) begun_stands
 

@@ -46,17 +46,23 @@ use Rattle.kb_ways.specs.Plans.{returns_value as returns_value_sym, Planned, pla
 use Rattle.kb_stepref.specs.Effects.{branch_where, branches_null, branches_same, gets, got, in_local, loads, pushes_null, returns_reference, stores, throws_object as throws_object_sym, throws_reference, throws_top}
 use Rattle.kb_stepref.specs.Fields.{field_named, held}
 use Rattle.kb_ways.specs.Identity.{same}
+use Rattle.kb_ways.specs.Known.{first_open, known_stack}
+use Rattle.kb_ways.specs.Looked.{both_sides, looked_operand}
+use Rattle.kb_picture.specs.Growing.{params_of}
+use Rattle.std.proofs.lemmas.Option.{none-some}
+use Rattle.kb_ways.proofs.KnownLaws.{IsClosed, closed_top, each_known, rest_same, sides_told, stack_same}
+use Rattle.kb_stepref.specs.Looked.{looked_by_branch}
 use Rattle.kb_stepref.specs.Comparing.{is_null}
 use Rattle.kb_ways.specs.Operands.{a_reference as one_reference, reference, two_references}
 use Rattle.kb_stepref.specs.Questions.{asks_field}
 use Rattle.kb_stepref.proofs.ObjectLaws.{field_held, same_is}
 use Rattle.kb_stepref.proofs.StringLaws.{no_throwable}
-use Rattle.kb_ways.proofs.ObjectLaws.{literal_there, made_there, no_loc, object_placed, place_is}
+use Rattle.kb_ways.proofs.ObjectLaws.{literal_there, made_there, object_placed, place_is}
 use Rattle.kb_stepref.proofs.ReferenceLaws.{IsReference, null_is, one_reference_is, pair_below, reference_back, reference_kind, reference_value, referred, result_kept, top_reference, two_references_are, kept_whole}
 use Rattle.kb_ways.proofs.KeptLaws.{reference_is}
 
 -- The state has the frame with which a run goes on whose arguments are read.
-module _ (world : World) (bounds : Bounds) (base : State) (frame : SymFrame) (callers : List SymFrame) (sound : Sound world (record base { stage = Runs frame callers })) (known : base.picture.locs ≡ [])
+module _ (world : World) (bounds : Bounds) (base : State) (frame : SymFrame) (callers : List SymFrame) (sound : Sound world (record base { stage = Runs frame callers }))
     (input : Input) (correct : IsTypeCorrect world base.method input) (c : Config) (stands : StandsFor (setting_of world bounds) (record base { stage = Runs frame callers }) input c) (next : ℕ) where
   abbrev s : Setting
   s = setting_of world bounds
@@ -109,11 +115,38 @@ module _ (world : World) (bounds : Bounds) (base : State) (frame : SymFrame) (ca
       so (with s c (a_reference c.frame.stack) f) (with s c (option_map top (one_reference frame.stack)) f) (planned state (one_reference frame.stack) plan)
       (ap (λ (o : Option (Taken Reference)). with s c o f) (ap a_reference framed.stack ∙ one_reference_is r frame.stack)) (with_is top f plan (one_reference frame.stack) h)
 
-  with_two : (f : Taken (Reference × Reference) → Outcome) (plan : SymValue × SymValue → Planned) → ((pair : SymValue × SymValue) → two_references frame.stack ≡ Some pair → IsPlan (f (two pair)) (plan pair))
-      → IsPlan (with s c (two_of c.frame.stack) f) (planned state (two_references frame.stack) plan)
+  -- as it is known
+  abbrev values : List SymValue
+  values = known_stack state
+
+  values_are : c.frame.stack ≡ values_of_sym r values
+  values_are = framed.stack ∙ sym (stack_same world state input stands.instance_of)
+
+  known_value : (depth : ℕ) (value : SymValue) → reference (slice_get values depth) ≡ Some value → IsReference value × IsSymValue world state value
+  known_value depth value e = (
+    reference_kind (slice_get values depth) value e,
+    each_known world (params_of world sound.typed.method) state sound.typed.formed frame.stack sound.stage.0.stack depth value (reference_is (slice_get values depth) value e),
+  )
+
+  with_known : (f : Taken Reference → Outcome) (plan : SymValue → Planned) → ((value : SymValue) → one_reference values ≡ Some value → IsPlan (f (top value)) (plan value))
+      → IsPlan (with s c (a_reference c.frame.stack) f) (planned state (one_reference values) plan)
+  with_known f plan h =
+      so (with s c (a_reference c.frame.stack) f) (with s c (option_map top (one_reference values)) f) (planned state (one_reference values) plan)
+      (ap (λ (o : Option (Taken Reference)). with s c o f) (ap a_reference values_are ∙ (one_reference_is r values ∙ below (one_reference values)))) (with_is top f plan (one_reference values) h)
+    where
+      below : (it : Option SymValue) → option_map (top_reference r values) it ≡ option_map top it
+      below None = refl
+      below (Some value) = ap (λ (left : List Value). Some (record { it = referred r value; rest = left })) (rest_same world state input stands.instance_of 1)
+
+  with_two : (f : Taken (Reference × Reference) → Outcome) (plan : SymValue × SymValue → Planned) → ((pair : SymValue × SymValue) → two_references values ≡ Some pair → IsPlan (f (two pair)) (plan pair))
+      → IsPlan (with s c (two_of c.frame.stack) f) (planned state (two_references values) plan)
   with_two f plan h =
-      so (with s c (two_of c.frame.stack) f) (with s c (option_map two (two_references frame.stack)) f) (planned state (two_references frame.stack) plan)
-      (ap (λ (o : Option (Taken (Reference × Reference))). with s c o f) (ap two_of framed.stack ∙ two_references_are r frame.stack)) (with_is two f plan (two_references frame.stack) h)
+      so (with s c (two_of c.frame.stack) f) (with s c (option_map two (two_references values)) f) (planned state (two_references values) plan)
+      (ap (λ (o : Option (Taken (Reference × Reference))). with s c o f) (ap two_of values_are ∙ (two_references_are r values ∙ below (two_references values)))) (with_is two f plan (two_references values) h)
+    where
+      below : (it : Option (SymValue × SymValue)) → option_map (pair_below r (referred r) values) it ≡ option_map two it
+      below None = refl
+      below (Some pair) = ap (λ (left : List Value). Some (record { it = (referred r pair.0, referred r pair.1); rest = left })) (rest_same world state input stands.instance_of 2)
 
   -- ---- constants and locals
 
@@ -165,21 +198,31 @@ module _ (world : World) (bounds : Bounds) (base : State) (frame : SymFrame) (ca
       with_one (λ (t : Taken Reference). branches s c next target (is_wanted want (is_null_reference t.it)) t.rest) (λ (value : SymValue). plain state (branch_where state (is_wanted want (is_null value)) target 1))
       (λ value e. branch_so (is_null_reference (referred r value)) (is_null value) want target 1 (null_is r value (value_there 0 value e).0))
 
-  pub branches_same_is : (want : Bool) (target : ℕ)
+  pub branches_same_is : (want : Bool) (target : ℕ) → first_open (looked_by_branch state) ≡ None
       → IsPlan (with s c (two_of c.frame.stack) (λ t. branches s c next target (is_wanted want (same_reference t.it.0 t.it.1)) t.rest)) (branches_same state want target)
-  branches_same_is want target =
+  branches_same_is want target quiet =
       with_two (λ (t : Taken (Reference × Reference)). branches s c next target (is_wanted want (same_reference t.it.0 t.it.1)) t.rest)
-      (λ (pair : SymValue × SymValue). plain state (branch_where state (is_wanted want (same pair.0 pair.1)) target 2)) compared
+      (λ (pair : SymValue × SymValue). planned state (same pair.0 pair.1) (λ b. plain state (branch_where state (is_wanted want b) target 2))) compared
     where
-      compared : (pair : SymValue × SymValue) → two_references frame.stack ≡ Some pair
+      -- where the table tells whether they are one
+      told_is : (pair : SymValue × SymValue) (is : Bool) → same_reference (referred r pair.0) (referred r pair.1) ≡ is → same pair.0 pair.1 ≡ Some is
           → IsPlan (branches s c next target (is_wanted want (same_reference (referred r pair.0) (referred r pair.1))) (values_of_sym r (drop 2 frame.stack)))
-          (plain state (branch_where state (is_wanted want (same pair.0 pair.1)) target 2))
+          (planned state (same pair.0 pair.1) (λ b. plain state (branch_where state (is_wanted want b) target 2)))
+      told_is pair is alike e =
+          subst (λ (it : Option Bool). IsPlan (branches s c next target (is_wanted want (same_reference (referred r pair.0) (referred r pair.1))) (values_of_sym r (drop 2 frame.stack)))
+          (planned state it (λ b. plain state (branch_where state (is_wanted want b) target 2)))) (sym e)
+          (branch_so (same_reference (referred r pair.0) (referred r pair.1)) is want target 2 alike)
+
+      compared : (pair : SymValue × SymValue) → two_references values ≡ Some pair
+          → IsPlan (branches s c next target (is_wanted want (same_reference (referred r pair.0) (referred r pair.1))) (values_of_sym r (drop 2 frame.stack)))
+          (planned state (same pair.0 pair.1) (λ b. plain state (branch_where state (is_wanted want b) target 2)))
       compared pair e =
-          let parts = two_parts (reference (slice_get frame.stack 0)) (reference (slice_get frame.stack 1)) pair e in
-          let one = value_there 1 pair.0 parts.1 in
-          let other = value_there 0 pair.1 parts.0 in
-          branch_so (same_reference (referred r pair.0) (referred r pair.1)) (same pair.0 pair.1) want target 2
-          (same_is world state sound.cells known input correct stands.instance_of.shape c.heap stands.heap pair.0 pair.1 one.0 other.0 one.1 other.1)
+          let parts = two_parts (reference (slice_get values 0)) (reference (slice_get values 1)) pair e in
+          let one = known_value 1 pair.0 parts.1 in
+          let other = known_value 0 pair.1 parts.0 in
+          let told = sides_told pair.0 pair.1 (sym (ap (λ (it : Option (SymValue × SymValue)). first_open (option_map_or (λ (t : SymValue × SymValue). both_sides t.0 t.1) it [])) e) ∙ quiet) in
+          told_is pair told.0
+          (same_is world state sound.cells input correct stands.instance_of.shape c.heap stands.heap pair.0 pair.1 told.0 one.0 other.0 one.1 other.1 told.1) told.1
 
   -- ---- returns
 
@@ -240,46 +283,46 @@ module _ (world : World) (bounds : Bounds) (base : State) (frame : SymFrame) (ca
     joined (Some object) = refl
 
     -- an object
-    named_is : (value : SymValue) (o : ℕ) → value_of_sym r value ≡ Ref o → IsSymValue world state value → asks_field world state field (Some value) ≡ None
+    named_is : (value : SymValue) (o : ℕ) → IsClosed value → value_of_sym r value ≡ Ref o → IsSymValue world state value → asks_field world state field (Some value) ≡ None
         → IsPlan (on_object s c (Some o) reads) (planned state (held world state field value) (λ (it : SymValue). plain state (with_stack state (it ∷ drop 1 frame.stack))))
-    named_is value o e is told =
+    named_is value o closed e is told =
         so (on_object s c (Some o) reads) (with s c (option_map (value_of_sym r) (held world state field value)) pushes)
         (planned state (held world state field value) (λ (it : SymValue). plain state (with_stack state (it ∷ drop 1 frame.stack))))
         (joined (object_at c.heap o)
-        ∙ ap (λ (v : Option Value). with s c v pushes) (field_held world state sound.cells known input correct stands.instance_of.shape c.heap stands.heap field value o is e told))
+        ∙ ap (λ (v : Option Value). with s c v pushes) (field_held world state sound.cells input correct stands.instance_of.shape c.heap stands.heap field value o closed is e told))
         (with_is (value_of_sym r) pushes (λ (it : SymValue). plain state (with_stack state (it ∷ drop 1 frame.stack))) (held world state field value)
         (λ it at. goes_is (it ∷ drop 1 frame.stack) (value_of_sym r it ∷ rest) refl))
 
-    got_is : (value : SymValue) → IsReference value → IsSymValue world state value → asks_field world state field (Some value) ≡ None → IsPlan (on_object s c (referred r value) reads) (got world state field value)
-    got_is (Int t) reference is told = absurd reference
-    got_is Null reference is told = (refl, refl)
-    got_is (Obj n) reference is told = named_is (Obj n) _ refl is told
-    got_is (Literal n) reference is told = named_is (Literal n) _ refl is told
-    got_is (New n) reference is told = named_is (New n) _ refl is told
-    got_is (Loc n) reference is told = named_is (Loc n) _ refl is told
+    got_is : (value : SymValue) → IsClosed value → IsReference value → IsSymValue world state value → asks_field world state field (Some value) ≡ None → IsPlan (on_object s c (referred r value) reads) (got world state field value)
+    got_is (Int t) closed reference is told = absurd reference
+    got_is Null closed reference is told = (refl, refl)
+    got_is (Obj n) closed reference is told = named_is (Obj n) _ closed refl is told
+    got_is (Literal n) closed reference is told = named_is (Literal n) _ closed refl is told
+    got_is (New n) closed reference is told = named_is (New n) _ closed refl is told
+    got_is (Loc n) closed reference is told = named_is (Loc n) _ closed refl is told
 
-    field_is : asks_field world state field (slice_get frame.stack 0) ≡ None
-        → IsPlan (with s c (a_reference c.frame.stack) (λ t. on_object s c t.it (λ o object. with s c (field_of world object field) (λ v. goes s c next (v ∷ t.rest))))) (planned state (one_reference frame.stack) (got world state field))
-    field_is told =
-        with_one (λ (t : Taken Reference). on_object s c t.it (λ o object. with s c (field_of world object field) (λ v. goes s c next (v ∷ t.rest)))) (got world state field)
+    field_is : first_open (looked_operand state) ≡ None → asks_field world state field (slice_get values 0) ≡ None
+        → IsPlan (with s c (a_reference c.frame.stack) (λ t. on_object s c t.it (λ o object. with s c (field_of world object field) (λ v. goes s c next (v ∷ t.rest))))) (planned state (one_reference values) (got world state field))
+    field_is quiet told =
+        with_known (λ (t : Taken Reference). on_object s c t.it (λ o object. with s c (field_of world object field) (λ v. goes s c next (v ∷ t.rest)))) (got world state field)
         (λ value e.
-        (let is = value_there 0 value e in
-        got_is value is.0 is.1 (ap (asks_field world state field) (sym (reference_is (slice_get frame.stack 0) value e)) ∙ told)))
+        (let is = known_value 0 value e in
+        got_is value (closed_top state value e quiet) is.0 is.1 (ap (asks_field world state field) (sym (reference_is (slice_get values 0) value e)) ∙ told)))
 
-  pub gets_is : (entry : ℕ) → option_and_then (λ (field : FieldSlot). asks_field world state field (slice_get frame.stack 0)) (field_named world state entry) ≡ None
+  pub gets_is : (entry : ℕ) → first_open (looked_operand state) ≡ None → option_and_then (λ (field : FieldSlot). asks_field world state field (slice_get values 0)) (field_named world state entry) ≡ None
       → IsPlan (with s c (resolved_field s.world (class_number s.world c.frame.method) entry) (λ field. with s c (a_reference c.frame.stack) (λ t. on_object s c t.it (λ o object. with s c (field_of s.world object field) (λ v. goes s c next (v ∷ t.rest))))))
       (gets world state entry)
-  gets_is entry told =
+  gets_is entry quiet told =
       so (with s c (resolved_field world (class_number world c.frame.method) entry) reads_field) (with s c (field_named world state entry) reads_field) (gets world state entry)
       (ap (λ (m : MethodId). with s c (resolved_field world (class_number world m) entry) reads_field) framed.method) (go (field_named world state entry) told)
     where
       reads_field : FieldSlot → Outcome
       reads_field field = with s c (a_reference c.frame.stack) (λ t. on_object s c t.it (λ o object. with s c (field_of world object field) (λ v. goes s c next (v ∷ t.rest))))
 
-      go : (it : Option FieldSlot) → option_and_then (λ (field : FieldSlot). asks_field world state field (slice_get frame.stack 0)) it ≡ None
-          → IsPlan (with s c it reads_field) (planned state it (λ (field : FieldSlot). planned state (one_reference frame.stack) (got world state field)))
+      go : (it : Option FieldSlot) → option_and_then (λ (field : FieldSlot). asks_field world state field (slice_get values 0)) it ≡ None
+          → IsPlan (with s c it reads_field) (planned state it (λ (field : FieldSlot). planned state (one_reference values) (got world state field)))
       go None told = (refl, refl)
-      go (Some field) told = field_is field told
+      go (Some field) told = field_is field quiet told
 
   -- ---- athrow
 
@@ -304,29 +347,29 @@ module _ (world : World) (bounds : Bounds) (base : State) (frame : SymFrame) (ca
       (ap (λ (it : Option Object). with s c it (thrown_by (object_place r object))) at) (there_thrown object of.kind))
 
   module _ (linked : IsLinked world) where
-    value_thrown : (value : SymValue) → IsReference value → IsSymValue world state value → IsPlan (on_object s c (referred r value) thrown_by) (throws_reference world state value)
+    value_thrown : (value : SymValue) → IsClosed value → IsReference value → IsSymValue world state value → IsPlan (on_object s c (referred r value) thrown_by) (throws_reference world state value)
     unfolding reading_at
-    value_thrown (Int t) reference is = absurd reference
-    value_thrown Null reference is = (refl, refl)
-    value_thrown (Obj n) reference is =
+    value_thrown (Int t) closed reference is = absurd reference
+    value_thrown Null closed reference is = (refl, refl)
+    value_thrown (Obj n) closed reference is =
         let object = there state.picture.objects n is in
-        let p = object_placed world state sound.cells known input correct stands.instance_of.shape c.heap stands.heap n object.0 object.1 in
+        let p = object_placed world state sound.cells input correct stands.instance_of.shape c.heap stands.heap n object.0 object.1 in
         object_thrown (OfPicture n) p.object (exact_type_of state (Obj n))
-        (ap (object_at c.heap) (place_is world state sound.cells known input correct stands.instance_of.shape c.heap stands.heap n object.0 p) ∙ p.found)
+        (ap (object_at c.heap) (place_is world state sound.cells input correct stands.instance_of.shape c.heap stands.heap n object.0 p) ∙ p.found)
         (ap (option_map (λ (o : PicObject). o.kind)) object.1 ∙ ap (λ (k : ExactType). Some k) (sym p.kind))
-    value_thrown (Literal n) reference is = (
+    value_thrown (Literal n) closed reference is = (
       refl,
-      ap (λ (it : Option Object). with s c it (thrown_by (length input.heap.objects + n))) (literal_there world state sound.cells known input correct stands.instance_of.shape c.heap stands.heap n is)
+      ap (λ (it : Option Object). with s c it (thrown_by (length input.heap.objects + n))) (literal_there world state sound.cells input correct stands.instance_of.shape c.heap stands.heap n is)
           ∙ ap (λ (b : Bool). if b then throws_object s c (length input.heap.objects + n) literal.kind else ill_typed s c) (no_throwable world linked),
     )
-    value_thrown (New n) reference is =
+    value_thrown (New n) closed reference is =
         let made = there state.made n is in
         object_thrown (OfRun n) (made_at r made.0) (exact_type_of state (New n))
-        (made_there world state sound.cells known input correct stands.instance_of.shape c.heap stands.heap n ∙ ap (option_map (made_at r)) made.1)
+        (made_there world state sound.cells input correct stands.instance_of.shape c.heap stands.heap n ∙ ap (option_map (made_at r)) made.1)
         (ap (option_map (λ (o : SymObject). o.kind)) made.1)
-    value_thrown (Loc n) reference is = absurd (no_loc world state sound.cells known input correct stands.instance_of.shape c.heap stands.heap n is)
+    value_thrown (Loc n) closed reference is = absurd (none-some n (sym closed))
 
-    pub throws_top_is : IsPlan (with s c (a_reference c.frame.stack) (λ t. on_object s c t.it (λ o object. if fits world object.kind (types.Class throwable) then throws_object s c o object.kind else ill_typed s c))) (throws_top world state)
-    throws_top_is =
-        with_one (λ (t : Taken Reference). on_object s c t.it thrown_by) (throws_reference world state)
-        (λ value e. (let is = value_there 0 value e in value_thrown value is.0 is.1))
+    pub throws_top_is : first_open (looked_operand state) ≡ None → IsPlan (with s c (a_reference c.frame.stack) (λ t. on_object s c t.it (λ o object. if fits world object.kind (types.Class throwable) then throws_object s c o object.kind else ill_typed s c))) (throws_top world state)
+    throws_top_is quiet =
+        with_known (λ (t : Taken Reference). on_object s c t.it thrown_by) (throws_reference world state)
+        (λ value e. (let is = known_value 0 value e in value_thrown value (closed_top state value e quiet) is.0 is.1))

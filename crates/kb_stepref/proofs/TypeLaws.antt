@@ -30,8 +30,11 @@ use Rattle.kb_ways.specs.Plans.{Planned, here, plain, planned}
 use Rattle.kb_ways.specs.Types.{is_object_of}
 use Rattle.kb_ways.specs.Ways.{Throws, with_stack}
 use Rattle.kb_ways.proofs.InputLaws.{inputs_agree}
+use Rattle.kb_ways.specs.Known.{first_open, known_stack}
+use Rattle.kb_ways.specs.Looked.{looked_operand}
+use Rattle.kb_ways.proofs.KnownLaws.{IsClosed, closed_top}
 use Rattle.kb_ways.proofs.ObjectLaws.{is_typed}
-use Rattle.kb_ways.proofs.PlannedLaws.{IsPlan, Situation, number_is, plain_is, reference_there, so, stack_is, state_of, with_is, with_reference, with_same}
+use Rattle.kb_ways.proofs.PlannedLaws.{IsPlan, Situation, number_is, plain_is, known_reference_there, so, stack_is, state_of, with_is, with_known_reference, with_same}
 use Rattle.kb_ways.proofs.ReferenceLaws.{IsReference, referred}
 use Rattle.kb_stepref.specs.Types.{casts, casts_to, is_instance, loads_literal, tells, tells_type}
 
@@ -56,20 +59,20 @@ module _ (world : World) (bounds : Bounds) (at : Situation world bounds) (next :
 
   -- ---- types of objects
 
-  object_is : (type : ExactType) (value : SymValue) (o : ℕ) → IsSymValue world state value → value_of_sym r value ≡ Ref o
+  object_is : (type : ExactType) (value : SymValue) (o : ℕ) → IsClosed value → IsSymValue world state value → value_of_sym r value ≡ Ref o
       → is_machine_instance world c.heap type o ≡ is_object_of world state (type_of_exact type) value
-  object_is type value o is e =
-      is_typed world state at.sound.cells at.known at.input at.correct at.stands.instance_of.shape c.heap at.stands.heap (type_of_exact type) value o is e
+  object_is type value o closed is e =
+      is_typed world state at.sound.cells at.input at.correct at.stands.instance_of.shape c.heap at.stands.heap (type_of_exact type) value o closed is e
 
   -- a reference leads to an object of the type at the input where it does in the state
-  instance_is : (type : ExactType) (null : Bool) (value : SymValue) → IsReference value → IsSymValue world state value
+  instance_is : (type : ExactType) (null : Bool) (value : SymValue) → IsClosed value → IsReference value → IsSymValue world state value
       → option_map_or (is_machine_instance world c.heap type) (referred r value) null ≡ is_instance world state type null value
-  instance_is type null (Int t) kind is = absurd kind
-  instance_is type null Null kind is = refl
-  instance_is type null (Obj n) kind is = object_is type (Obj n) _ is refl
-  instance_is type null (Literal n) kind is = object_is type (Literal n) _ is refl
-  instance_is type null (New n) kind is = object_is type (New n) _ is refl
-  instance_is type null (Loc n) kind is = object_is type (Loc n) _ is refl
+  instance_is type null (Int t) closed kind is = absurd kind
+  instance_is type null Null closed kind is = refl
+  instance_is type null (Obj n) closed kind is = object_is type (Obj n) _ closed is refl
+  instance_is type null (Literal n) closed kind is = object_is type (Literal n) _ closed is refl
+  instance_is type null (New n) closed kind is = object_is type (New n) _ closed is refl
+  instance_is type null (Loc n) closed kind is = object_is type (Loc n) _ closed is refl
 
   -- ---- checkcast
 
@@ -83,23 +86,23 @@ module _ (world : World) (bounds : Bounds) (at : Situation world bounds) (next :
   passed_is true = stack_is world bounds at next at.frame.stack c.frame.stack at.stands.stage.0.stack
   passed_is false = plain_is world bounds at next (throws s c class_cast) (Throws class_cast) refl
 
-  casts_to_is : (type : ExactType) (value : SymValue) → one_reference at.frame.stack ≡ Some value
+  casts_to_is : (type : ExactType) → first_open (looked_operand state) ≡ None → (value : SymValue) → one_reference (known_stack state) ≡ Some value
       → Is (if passes type (referred r value) then goes s c next c.frame.stack else throws s c class_cast) (casts_to world state type value)
-  casts_to_is type value e =
-      let there : IsReference value × IsSymValue world state value = reference_there world bounds at next 0 value e in
+  casts_to_is type quiet value e =
+      let there : IsReference value × IsSymValue world state value = known_reference_there world bounds at next 0 value e in
       so world bounds at next (if passes type (referred r value) then goes s c next c.frame.stack else throws s c class_cast)
       (if is_instance world state type true value then goes s c next c.frame.stack else throws s c class_cast) (casts_to world state type value)
-      (ap (λ (b : Bool). if b then goes s c next c.frame.stack else throws s c class_cast) (instance_is type true value there.0 there.1)) (passed_is (is_instance world state type true value))
+      (ap (λ (b : Bool). if b then goes s c next c.frame.stack else throws s c class_cast) (instance_is type true value (closed_top state value e quiet) there.0 there.1)) (passed_is (is_instance world state type true value))
 
   abbrev cast_in : ℕ → ℕ → Outcome
   cast_in class entry = with s c (type_entry_of world class entry) cast_to
 
-  pub casts_is : (entry : ℕ) → Is (cast entry s next c) (casts world state entry)
+  pub casts_is : (entry : ℕ) → first_open (looked_operand state) ≡ None → Is (cast entry s next c) (casts world state entry)
   unfolding cast
-  casts_is entry =
+  casts_is entry quiet =
       so world bounds at next (cast_in (machine_here s c) entry) (cast_in (here world state) entry) (casts world state entry) (ap (λ (class : ℕ). cast_in class entry) here_is)
-      (with_same world bounds at next cast_to (λ (type : ExactType). planned state (one_reference at.frame.stack) (casts_to world state type)) (type_entry_of world (here world state) entry)
-      (λ type. with_reference world bounds at next (λ (t : Taken Reference). if passes type t.it then goes s c next c.frame.stack else throws s c class_cast) (casts_to world state type) (casts_to_is type)))
+      (with_same world bounds at next cast_to (λ (type : ExactType). planned state (one_reference (known_stack state)) (casts_to world state type)) (type_entry_of world (here world state) entry)
+      (λ type. with_known_reference world bounds at next (λ (t : Taken Reference). if passes type t.it then goes s c next c.frame.stack else throws s c class_cast) (casts_to world state type) (casts_to_is type quiet)))
 
   -- ---- instanceof
 
@@ -109,24 +112,24 @@ module _ (world : World) (bounds : Bounds) (at : Situation world bounds) (next :
   abbrev told_of : ExactType → Outcome
   told_of type = with s c (a_reference c.frame.stack) (λ t. goes s c next (IntValue (truth (is_so type t.it)) ∷ t.rest))
 
-  tells_is : (type : ExactType) (value : SymValue) → one_reference at.frame.stack ≡ Some value
+  tells_is : (type : ExactType) → first_open (looked_operand state) ≡ None → (value : SymValue) → one_reference (known_stack state) ≡ Some value
       → Is (goes s c next (IntValue (truth (is_so type (referred r value))) ∷ values_of_sym r (drop 1 at.frame.stack))) (tells world state type value)
-  tells_is type value e =
-      let there : IsReference value × IsSymValue world state value = reference_there world bounds at next 0 value e in
+  tells_is type quiet value e =
+      let there : IsReference value × IsSymValue world state value = known_reference_there world bounds at next 0 value e in
       let rest : List Value = values_of_sym r (drop 1 at.frame.stack) in
       so world bounds at next (goes s c next (IntValue (truth (is_so type (referred r value))) ∷ rest)) (goes s c next (IntValue (truth (is_instance world state type false value)) ∷ rest)) (tells world state type value)
-      (ap (λ (b : Bool). goes s c next (IntValue (truth b) ∷ rest)) (instance_is type false value there.0 there.1))
+      (ap (λ (b : Bool). goes s c next (IntValue (truth b) ∷ rest)) (instance_is type false value (closed_top state value e quiet) there.0 there.1))
       (number_is world bounds at next (truth (is_instance world state type false value)) (drop 1 at.frame.stack) (each_drop (IsSymValue world state) 1 at.frame.stack at.sound.stage.0.stack))
 
   abbrev told_in : ℕ → ℕ → Outcome
   told_in class entry = with s c (type_entry_of world class entry) told_of
 
-  pub tells_type_is : (entry : ℕ) → Is (instance_of entry s next c) (tells_type world state entry)
+  pub tells_type_is : (entry : ℕ) → first_open (looked_operand state) ≡ None → Is (instance_of entry s next c) (tells_type world state entry)
   unfolding instance_of
-  tells_type_is entry =
+  tells_type_is entry quiet =
       so world bounds at next (told_in (machine_here s c) entry) (told_in (here world state) entry) (tells_type world state entry) (ap (λ (class : ℕ). told_in class entry) here_is)
-      (with_same world bounds at next told_of (λ (type : ExactType). planned state (one_reference at.frame.stack) (tells world state type)) (type_entry_of world (here world state) entry)
-      (λ type. with_reference world bounds at next (λ (t : Taken Reference). goes s c next (IntValue (truth (is_so type t.it)) ∷ t.rest)) (tells world state type) (tells_is type)))
+      (with_same world bounds at next told_of (λ (type : ExactType). planned state (one_reference (known_stack state)) (tells world state type)) (type_entry_of world (here world state) entry)
+      (λ type. with_known_reference world bounds at next (λ (t : Taken Reference). goes s c next (IntValue (truth (is_so type t.it)) ∷ t.rest)) (tells world state type) (tells_is type quiet)))
 
   -- ---- literals
 

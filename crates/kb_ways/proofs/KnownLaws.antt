@@ -23,7 +23,8 @@ use Rattle.kb_frames.proofs.ResolveLaws.{instance_same}
 use Rattle.kb_classes.specs.Options.{or_else}
 use Rattle.kb_ways.specs.Known.{first_open, known, known_stack, open_loc}
 use Rattle.kb_ways.specs.Identity.{same}
-use Rattle.kb_ways.specs.Looked.{both_sides}
+use Rattle.kb_ways.specs.Looked.{both_sides, looked_operand}
+use Rattle.kb_ways.specs.Operands.{a_reference}
 use Rattle.kb_ways.proofs.ReferenceLaws.{IsReference}
 use Rattle.kb_ways.specs.Needs.{HasTerms, IsTermOf}
 
@@ -151,6 +152,10 @@ first_closed value others e = go (open_loc value) e where
 
 pub others_closed : (value : SymValue) (others : List SymValue) → first_open (value ∷ others) ≡ None → first_open others ≡ None
 others_closed value others e = sym (ap (λ (it : Option ℕ). or_else it (first_open others)) (first_closed value others e)) ∙ e
+
+-- so the reference on the top is not, where nothing is that is looked into
+pub closed_top : (state : State) (value : SymValue) → a_reference (known_stack state) ≡ Some value → first_open (looked_operand state) ≡ None → IsClosed value
+closed_top state value e quiet = first_closed value [] (sym (ap (λ (it : Option SymValue). first_open (option_map_or (λ (x : SymValue). x ∷ []) it [])) e) ∙ quiet)
 
 -- where neither side is open, the table tells whether they are one
 pub sides_told : (one other : SymValue) → first_open (both_sides one other) ≡ None → (so : Bool) × (same one other ≡ Some so)
