@@ -1,7 +1,7 @@
 use Rattle.std.proofs.Common.{None, sym, subst}
 use Rattle.kb_stepref.specs.Looks.{IsReady}
 use Rattle.kb_stepref.proofs.LookLaws.{int_ready}
-use Rattle.kb_stepref.proofs.take.go_behind_place.Goals as goal
+use Rattle.kb_stepref.proofs.take.go_behind_chosen.Goals as goal
 
 pub carry_out-requires : goal.carry_out-requires
 carry_out-requires c =
