@@ -1,5 +1,5 @@
 -- What a value is known to be has the kind and the value at an input that it has under its own name.
-use Rattle.std.proofs.Common.{◌≡◌, ℕ, ◌<◌, Bool, true, false, not, ◌&&◌, List, [], ◌∷◌, drop, length, map, nat_eq, option_map, slice_get, Option, Some, None, refl, sym, ap, subst, ◌∙◌, if◌then◌else◌, arith}
+use Rattle.std.proofs.Common.{◌≡◌, ℕ, zero, suc, ◌<◌, Bool, true, false, not, ◌&&◌, List, [], ◌∷◌, drop, length, map, nat_eq, option_map, slice_get, Option, Some, None, refl, sym, ap, subst, ◌∙◌, if◌then◌else◌, arith}
 use Rattle.std.proofs.lemmas.List.{drop-map}
 use Rattle.std.proofs.lemmas.Option.{none-some, same_Some, slice_get-map}
 use Rattle.std.specs.Option.{option_map_or}
@@ -153,7 +153,24 @@ first_closed value others e = go (open_loc value) e where
 pub others_closed : (value : SymValue) (others : List SymValue) → first_open (value ∷ others) ≡ None → first_open others ≡ None
 others_closed value others e = sym (ap (λ (it : Option ℕ). or_else it (first_open others)) (first_closed value others e)) ∙ e
 
--- so the reference on the top is not, where nothing is that is looked into
+-- what is open is the location of that number
+open_is : (value : SymValue) (number : ℕ) → open_loc value ≡ Some number → value ≡ Loc number
+open_is (Loc n) number e = ap (λ (m : ℕ). Loc m) (same_Some n number e)
+open_is (Int term) number e = absurd cc
+open_is Null number e = absurd cc
+open_is (Obj n) number e = absurd cc
+open_is (Literal n) number e = absurd cc
+open_is (New n) number e = absurd cc
+
+-- and the first that is open is one of them
+pub open_among : (values : List SymValue) (number : ℕ) → first_open values ≡ Some number → (i : ℕ) × (slice_get values i ≡ Some (Loc number))
+open_among [] number e = absurd cc
+open_among (value ∷ others) number e = go (open_loc value) refl e where
+  go : (it : Option ℕ) → open_loc value ≡ it → or_else it (first_open others) ≡ Some number → (i : ℕ) × (slice_get (value ∷ others) i ≡ Some (Loc number))
+  go None is e = (let rest = open_among others number e in (suc rest.0, rest.1))
+  go (Some n) is e = (0, ap (λ (v : SymValue). Some v) (open_is value n is ∙ ap (λ (m : ℕ). Loc m) (same_Some n number e)))
+
+-- the reference on the top is not open, where nothing is that is looked into
 pub closed_top : (state : State) (value : SymValue) → a_reference (known_stack state) ≡ Some value → first_open (looked_operand state) ≡ None → IsClosed value
 closed_top state value e quiet = first_closed value [] (sym (ap (λ (it : Option SymValue). first_open (option_map_or (λ (x : SymValue). x ∷ []) it [])) e) ∙ quiet)
 
