@@ -73,7 +73,7 @@ use Rattle.kb_ways.specs.declared.question.Question.{Question}
 use Rattle.kb_ways.specs.declared.question.Question.TheVariants.{Reads}
 use Rattle.kb_ways.specs.declared.question.Question.TheVariants as questions
 use Rattle.kb_stepref.specs.Questions.{asked_by, asks_cell, asks_field, question_of}
-use Rattle.kb_ways.specs.Questions.{answered, answers, asked_next, asks as behind_asks, behind_place, behind_read, cut_where, passed_by}
+use Rattle.kb_ways.specs.Questions.{answered, answers, asked_next, asks as behind_asks, behind_told, behind_read, cut_where, passed_by}
 use Rattle.kb_ways.specs.Plans.{here, takes_next, takes_up}
 use Rattle.kb_ways.specs.Slots.{first_ask}
 use Rattle.kb_steparray.specs.Arrays.{Array, array_of}
@@ -400,7 +400,7 @@ module _ (world : World) (bounds : Bounds) (old : State) (at : IsAtReferences wo
       place_before : IsInstanceOf up.state input → IsInstanceOf at_place input
       place_before i =
           index_before world bounds old at input c correct stands x count is (Index place) (index_unrefuted world bounds old at x count is (Index place) has)
-          (subst (λ (q : Option Question). IsInstanceOf (behind_place plan_of world bounds (Index place) at_place q).state input) (sym asks)
+          (subst (λ (q : Option Question). IsInstanceOf (behind_told plan_of world bounds (Index place) at_place q).state input) (sym asks)
           (subst (λ (b : Bool). IsInstanceOf (if b then behind_asks at_place else takes_up plan_of world bounds (Index place) (if b then first_reference world slot (Index place) at_place else read)).state input) (sym plain) i))
 
       read_stands : IsInstanceOf up.state input → StandsFor (setting_of world bounds) read input c
@@ -421,14 +421,14 @@ module _ (world : World) (bounds : Bounds) (old : State) (at : IsAtReferences wo
           (references_same world old read at (ap (argument_next world old.method) is.by.running) (read_method ∙ method_same (Index place) has) (read_stage ∙ stage_same (Index place) has)) (Index place) input
           (subst (λ (m : MethodId). IsTypeCorrect world m input) (sym read_method) (told_correct (Index place) has)) c read_stands at_place read_quiet read_method read_stage
 
-    place_follows : FollowsAt world bounds input c (behind_place plan_of world bounds (Index place) at_place (asked_next (asked_by bounds) world at_place))
+    place_follows : FollowsAt world bounds input c (behind_told plan_of world bounds (Index place) at_place (asked_next (asked_by bounds) world at_place))
     place_follows = go (asked_next (asked_by bounds) world at_place) refl where
       by_type : (slot : Origin) (type : JType) → asked_next (asked_by bounds) world at_place ≡ Some (Reads slot type) → (b : Bool) → is_reference_type type ≡ b
           → FollowsAt world bounds input c (if b then behind_asks at_place else takes_up plan_of world bounds (Index place) (if b then first_reference world slot (Index place) at_place else first_int slot (kind_for (Some type)) at_place))
       by_type slot type asks true reference = told_stands (Index place) has
       by_type slot type asks false plain = read_follows slot type asks plain
 
-      go : (q : Option Question) → asked_next (asked_by bounds) world at_place ≡ q → FollowsAt world bounds input c (behind_place plan_of world bounds (Index place) at_place q)
+      go : (q : Option Question) → asked_next (asked_by bounds) world at_place ≡ q → FollowsAt world bounds input c (behind_told plan_of world bounds (Index place) at_place q)
       go None asks = place_quiet asks
       go (Some (Reads slot type)) asks = by_type slot type asks (is_reference_type type) refl
       go (Some (questions.Index y many)) asks = told_stands (Index place) has

@@ -70,7 +70,7 @@ use Rattle.kb_ways.specs.declared.question.Question.TheVariants as questions
 use Rattle.kb_ways.specs.declared.condition.Condition.{Condition}
 use Rattle.kb_ways.specs.Asked.{all_asked}
 use Rattle.kb_ways.specs.Choosing.{index_conditions, length_conditions}
-use Rattle.kb_ways.specs.Questions.{answered, answers, asked_next, asks, behind_index, behind_place, behind_read, cut_where, passed_by, with_place}
+use Rattle.kb_ways.specs.Questions.{answered, answers, asked_next, asks, behind_index, behind_told, behind_read, cut_where, passed_by, with_place}
 use Rattle.kb_stepref.specs.Takes.{taken}
 use Rattle.kb_stepref.proofs.FirstReadLaws.{IsAsked, asked}
 use Rattle.kb_picture.specs.declared.choice.Choice.TheVariants.{Index, Only}
@@ -331,7 +331,7 @@ module _ (world : World) (bounds : Bounds) where
   module _ (P : Take → Type 0) (choice : Choice) (state : State) where
     place_has : (question : Option Question) → ((q : Question) → question ≡ Some q → P (asks state)) → P (takes_up plan_of world bounds choice state)
         → ((slot : Origin) (type : JType) → question ≡ Some (Reads slot type) → is_reference_type type ≡ false → P (takes_up plan_of world bounds choice (first_int slot (kind_for (Some type)) state)))
-        → P (behind_place plan_of world bounds choice state question)
+        → P (behind_told plan_of world bounds choice state question)
     place_has None asked up read = up
     place_has (Some (Reads slot type)) asked up read = go (is_reference_type type) refl where
       go : (b : Bool) → is_reference_type type ≡ b

@@ -44,7 +44,7 @@ use Rattle.kb_ways.specs.declared.turn.Turn.{Turn}
 use Rattle.kb_ways.specs.Choosing.{length_conditions}
 use Rattle.kb_ways.specs.Needs.{HasTerms, IsAnswerOf, IsFor, IsQuestionIn, IsTermOf, IsTurnAt}
 use Rattle.kb_ways.specs.Plans.{taken_up, takes_next, takes_none, takes_up}
-use Rattle.kb_ways.specs.Questions.{answered, answers, asked_next, asks as asks_next, behind_index, behind_place, behind_read, cut_where, passed_by}
+use Rattle.kb_ways.specs.Questions.{answered, answers, asked_next, asks as asks_next, behind_index, behind_told, behind_read, cut_where, passed_by}
 use Rattle.kb_ways.specs.Turns.{found_of, led_by, told}
 use Rattle.kb_ways.specs.Ways.{Take}
 use Rattle.kb_ways.proofs.GrowLaws.{all_asked_grows}
@@ -372,7 +372,7 @@ module _ (world : World) (bounds : Bounds) (state : State) (at : IsAtReferences 
           no_field (instrs.GetField entry) e = absurd (none-some (Int x) e)
           no_field _ e = refl
 
-      place_taken : (q : Option Question) → asked_next (asked_by bounds) world placed_state ≡ q → behind_chosen turn choice placed_state q ≡ behind_place plan_of world bounds choice placed_state q
+      place_taken : (q : Option Question) → asked_next (asked_by bounds) world placed_state ≡ q → behind_chosen turn choice placed_state q ≡ behind_told plan_of world bounds choice placed_state q
       place_taken None e = carries_on
       place_taken (Some (Reads slot type)) e = go (is_reference_type type) where
         asked_instr : asked_by bounds world placed_state turn.instr.now ≡ Some (Reads slot type)
@@ -403,7 +403,7 @@ module _ (world : World) (bounds : Bounds) (state : State) (at : IsAtReferences 
           ∙ ap (λ (bound : Option Bound). cut_where bound placed_state (behind_index (asked_by bounds) plan_of world bounds choice placed_state)) passed
         where
           by_choice : (it : Choice) → carries turn it placed_state ≡ takes_up plan_of world bounds it placed_state
-              → ((q : Option Question) → asked_next (asked_by bounds) world placed_state ≡ q → behind_chosen turn it placed_state q ≡ behind_place plan_of world bounds it placed_state q)
+              → ((q : Option Question) → asked_next (asked_by bounds) world placed_state ≡ q → behind_chosen turn it placed_state q ≡ behind_told plan_of world bounds it placed_state q)
               → asks bounds turn.world.now placed_state turn.instr.now ≡ asked_next (asked_by bounds) world placed_state
               → behind_choice (asks bounds) turn it placed_state ≡ behind_index (asked_by bounds) plan_of world bounds it placed_state
           by_choice (Index place) on at_place alike =

@@ -2,8 +2,8 @@
 //! under lazy initialisation. Calls and new objects are carried out by kb_stepcall, what arrays, casts and literals need by
 //! kb_steparray.
 //!
-//! `specs/Looked.antt` has what each instruction looks into, `specs/Questions.antt` what a step must be told, `specs/Choices.antt` the alternatives, `specs/Takes.antt` what a take
-//! makes of a state.
+//! `specs/Looked.antt` has what each instruction looks into, `specs/Questions.antt` what a step must be told, `specs/Choices.antt` the
+//! alternatives, `specs/Takes.antt` what a take makes of a state.
 #![tactic(auto)]
 
 mod advance;

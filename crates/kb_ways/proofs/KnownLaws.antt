@@ -4,6 +4,7 @@ use Rattle.std.proofs.lemmas.List.{drop-map}
 use Rattle.std.proofs.lemmas.Option.{none-some, same_Some, slice_get-map}
 use Rattle.std.specs.Option.{option_map_or}
 use Rattle.kb_heap.specs.declared.heap.Input.{Input}
+use Rattle.kb_heap.specs.declared.heap.Value.{Value}
 use Rattle.kb_classes.specs.World.{World}
 use Rattle.kb_terms.specs.declared.node.Node.{Node}
 use Rattle.kb_terms.specs.declared.node.TermId.{TermId}
@@ -97,8 +98,8 @@ pub values_same : (world : World) (state : State) (input : Input) (i : IsInstanc
     → values_of_sym (reading_at world state input i.shape.places) (map (known state) values) ≡ values_of_sym (reading_at world state input i.shape.places) values
 values_same world state input i [] = refl
 values_same world state input i (value ∷ values) =
-    ap (λ v. v ∷ values_of_sym (reading_at world state input i.shape.places) (map (known state) values)) (instance_same world state input i value)
-    ∙ ap (λ vs. value_of_sym (reading_at world state input i.shape.places) value ∷ vs) (values_same world state input i values)
+    ap (λ (v : Value). v ∷ values_of_sym (reading_at world state input i.shape.places) (map (known state) values)) (instance_same world state input i value)
+    ∙ ap (λ (vs : List Value). value_of_sym (reading_at world state input i.shape.places) value ∷ vs) (values_same world state input i values)
 
 -- the stack has the values that it has under the names of the code
 pub stack_same : (world : World) (state : State) (input : Input) (i : IsInstanceOf state input)
@@ -210,4 +211,9 @@ sides_told (Loc n) (Loc m) e = go (nat_eq n m) e
     go : (b : Bool) → first_open (if true && true && not b then Loc n ∷ Loc m ∷ [] else []) ≡ None → (so : Bool) × ((if b then Some true else None) ≡ Some so)
     go true e = (true, refl)
     go false e = absurd (none-some n (sym e))
-sides_told (Int t) other e = (false, refl)
+sides_told (Int t) Null e = (false, refl)
+sides_told (Int t) (Int u) e = (false, refl)
+sides_told (Int t) (Obj m) e = (false, refl)
+sides_told (Int t) (Literal m) e = (false, refl)
+sides_told (Int t) (New m) e = (false, refl)
+sides_told (Int t) (Loc m) e = (false, refl)

@@ -49,7 +49,8 @@ pub fn first_open(values: &[SymValue]) -> Option<u32>
 pub fn open_operand(state: &SymState) -> Option<u32>
     ensures { result ≡ first_open (looked_operand state.now) }
 {
-    first_open(&[a_known_reference(state)?])
+    let value = a_known_reference(state)?;
+    first_open(&[value])
 }
 
 // ---- both sides of a comparison
