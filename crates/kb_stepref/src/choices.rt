@@ -103,12 +103,12 @@ fn objects(
     bounds: &Bounds,
     location: u32,
 ) -> Result<Vec<Choice>, NoMemory>
-    ensures { IfOk result (λ choices. choices.items ≡ alternatives world.now state.now bounds.now (Accesses location)) }
+    ensures { IfOk result (λ objects. objects.items ≡ alternatives world.now state.now bounds.now (Accesses location)) }
 {
     let Some(kind) = declared_type(alloc, world, state, location)? else {
         return Ok(Vec::new(alloc));
     };
-    let choices = resolve_choices(
+    let objects = resolve_choices(
         alloc,
         world,
         state.picture(),
@@ -117,7 +117,7 @@ fn objects(
         bounds.k,
         bounds.array,
     )?;
-    Ok(choices)
+    Ok(objects)
 }
 
 // The alternatives of a slot that is read for the first time.
