@@ -1,6 +1,6 @@
 -- What holds of the slot that a step on references asks for: it is there and was not read, and its declared type is that of the
 -- question.
-use Rattle.std.proofs.Common.{◌≡◌, ℕ, Bool, true, false, true≢false, not, nat_le, ◌<◌, List, [], length, Option, Some, None, slice_get, is_some, refl, sym, ap, subst, ◌∙◌, arith, if◌then◌else◌}
+use Rattle.std.proofs.Common.{◌≡◌, ℕ, Bool, true, false, true≢false, not, nat_le, ◌<◌, List, [], length, map, Option, Some, None, slice_get, is_some, refl, sym, ap, subst, ◌∙◌, arith, if◌then◌else◌}
 use Rattle.std.specs.Option.{option_and_then, option_map, option_map_or}
 use Rattle.std.proofs.lemmas.Option.{none-some, option_and_then_some, same_Some, slice_get_within}
 use Rattle.kb_class.specs.declared.members.MethodInfo.{MethodInfo}
@@ -61,7 +61,12 @@ use Rattle.kb_steparray.specs.Operands.{an_element, an_element_and_value}
 use Rattle.kb_steparray.specs.Questions.{asks_element, asks_length, asks_place, asks_unless}
 use Rattle.kb_steparray.proofs.ArrayLaws.{long_as, seen_as}
 use Rattle.kb_steparray.proofs.OperandLaws.{int_there, three_parts, two_parts}
-use Rattle.kb_stepref.specs.Questions.{asked_at, asked_by, asks_cell, asks_field, question_of}
+use Rattle.kb_ways.specs.Known.{first_open, known, known_stack}
+use Rattle.kb_ways.specs.Looked.{accesses_or}
+use Rattle.kb_ways.proofs.KnownLaws.{IsClosed, int_known, known_there}
+use Rattle.kb_stepref.specs.Looked.{looked_by}
+use Rattle.kb_stepref.proofs.LookedLaws.{looked_closed}
+use Rattle.kb_stepref.specs.Questions.{asked_beside, asked_at, asked_by, asks_cell, asks_field, question_of}
 use Rattle.kb_frames.proofs.CellLaws.{found_cell}
 use Rattle.kb_stepref.proofs.FieldSlots.{resolved_at, slot_in, slot_typed}
 
@@ -87,7 +92,7 @@ pub record IsAskedField (world : World) (bounds : Bounds) (state : State) (numbe
   pub named : field_named world state entry ≡ Some field
   pub slot_is : field.slot ≡ slot
   pub type_is : field.kind ≡ type
-  pub top : slice_get (stack_of state.stage) 0 ≡ Some (Obj number)
+  pub top : slice_get (known_stack state) 0 ≡ Some (Obj number)
   pub object : PicObject
   pub object_is : slice_get state.picture.objects number ≡ Some object
   pub has_it : has_field world object.kind field ≡ true
@@ -103,7 +108,7 @@ pub record IsAskedElement (world : World) (bounds : Bounds) (state : State) (num
   pub elem : Elem
   pub instruction : instruction_next world state.method state.stage ≡ Some (instrs.LoadElem elem)
   pub index : TermId
-  pub operands : an_element (stack_of state.stage) ≡ Some (Obj number, index)
+  pub operands : an_element (known_stack state) ≡ Some (Obj number, index)
   pub chosen : state.chosen ≡ Some place
   pub array : Array
   pub array_is : array_of state (takes_component elem) (Obj number) ≡ Some array
@@ -131,12 +136,17 @@ pub record IsAskedBy (world : World) (bounds : Bounds) (state : State) (question
   pub instruction : instruction_next world state.method state.stage ≡ Some instr
   pub asks : asked_by bounds world state instr ≡ Some question
 
+-- a location that the instruction looks into, and that is open
+pub record IsAskedAccess (world : World) (bounds : Bounds) (state : State) (number : ℕ) : Type 0 where
+  pub by : IsAskedBy world bounds state (questions.Accesses number)
+  pub first : first_open (looked_by world state by.instr) ≡ Some number
+
 -- the index of an access into an array that the state has, of which no place is chosen
 pub record IsAskedIndex (world : World) (bounds : Bounds) (state : State) (x : TermId) (count : ℕ) : Type 0 where
   pub by : IsAskedBy world bounds state (questions.Index x count)
   pub unchosen : state.chosen ≡ None
   pub index_is : index_next world state.method state.stage ≡ Some (Int x)
-  pub length_is : option_and_then (length_of state) (array_next world state.method state.stage) ≡ Some count
+  pub length_is : option_and_then (λ (value : SymValue). length_of state (known state value)) (array_next world state.method state.stage) ≡ Some count
 
 -- an instruction that makes an array of a component
 abbrev pub IsMaking : World → State → Instr → Type 0
@@ -153,6 +163,7 @@ pub record IsAskedLength (world : World) (bounds : Bounds) (state : State) (x : 
 
 abbrev pub IsQuestion : (world : World) → Bounds → (state : State) → IsWellTyped world state.method state.picture → Question → Type 0
 IsQuestion world bounds state typed (Reads slot type) = IsAsked world bounds state typed slot type
+IsQuestion world bounds state typed (questions.Accesses number) = IsAskedAccess world bounds state number
 IsQuestion world bounds state typed (questions.Index x count) = IsAskedIndex world bounds state x count
 IsQuestion world bounds state typed (questions.Length x most) = IsAskedLength world bounds state x most
 
@@ -240,9 +251,9 @@ module _ (world : World) (bounds : Bounds) (state : State) (linked : IsLinked wo
     go (Some object) at is = record { object = object; object_is = at; has_it = is }
 
   module _ (within : nat_le bounds.run.steps state.carried ≡ false) (entry : ℕ) (instruction : instruction_next world state.method state.stage ≡ Some (instrs.GetField entry))
-      (field : FieldSlot) (named : field_named world state entry ≡ Some field) (number : ℕ) (top : slice_get (stack_of state.stage) 0 ≡ Some (Obj number)) where
+      (field : FieldSlot) (named : field_named world state entry ≡ Some field) (number : ℕ) (top : slice_get (known_stack state) 0 ≡ Some (Obj number)) where
     -- its frame is there, since its stack has a value
-    field_from : (stage : Stage) → state.stage ≡ stage → slice_get (stack_of stage) 0 ≡ Some (Obj number) → HasObject number field → find_cell state.cells number field.slot ≡ Some Untouched
+    field_from : (stage : Stage) → state.stage ≡ stage → slice_get (map (known state) (stack_of stage)) 0 ≡ Some (Obj number) → HasObject number field → find_cell state.cells number field.slot ≡ Some Untouched
         → IsAskedField world bounds state number field.slot field.kind
     field_from (Begins read) is there holds cell = absurd cc
     field_from (Runs frame callers) is there holds cell = record {
@@ -290,7 +301,7 @@ module _ (world : World) (bounds : Bounds) (state : State) (linked : IsLinked wo
 
   module _ (within : nat_le bounds.run.steps state.carried ≡ false) (elem : Elem) (instruction : instruction_next world state.method state.stage ≡ Some (instrs.LoadElem elem)) where
     -- its frame is there, since its stack has values
-    element_from : (stage : Stage) → state.stage ≡ stage → (number place : ℕ) (index : TermId) → an_element (stack_of stage) ≡ Some (Obj number, index) → state.chosen ≡ Some place
+    element_from : (stage : Stage) → state.stage ≡ stage → (number place : ℕ) (index : TermId) → an_element (map (known state) (stack_of stage)) ≡ Some (Obj number, index) → state.chosen ≡ Some place
         → (array : Array) → array_of state (takes_component elem) (Obj number) ≡ Some array → find_cell state.cells number place ≡ Some Untouched
         → IsAskedElement world bounds state number place array.component
     element_from (Begins read) is number place index operands chosen array found cell = absurd cc
@@ -302,7 +313,7 @@ module _ (world : World) (bounds : Bounds) (state : State) (linked : IsLinked wo
       elem = elem;
       instruction = instruction;
       index = index;
-      operands = ap (λ (stage : Stage). an_element (stack_of stage)) is ∙ operands;
+      operands = ap (λ (stage : Stage). an_element (map (known state) (stack_of stage))) is ∙ operands;
       chosen = chosen;
       array = array;
       array_is = found;
@@ -310,7 +321,7 @@ module _ (world : World) (bounds : Bounds) (state : State) (linked : IsLinked wo
       cell = cell;
     }
 
-    element_asked : (number place : ℕ) (index : TermId) → an_element (stack_of state.stage) ≡ Some (Obj number, index) → state.chosen ≡ Some place
+    element_asked : (number place : ℕ) (index : TermId) → an_element (known_stack state) ≡ Some (Obj number, index) → state.chosen ≡ Some place
         → (array : Array) → array_of state (takes_component elem) (Obj number) ≡ Some array → find_cell state.cells number place ≡ Some Untouched
         → IsAsked world bounds state sound.typed (Element number place) array.component
     element_asked number place index operands chosen array found cell =
@@ -339,7 +350,7 @@ module _ (world : World) (bounds : Bounds) (state : State) (linked : IsLinked wo
               let less : place < length row = slice_get_within row place Untouched e in
               subst (λ (len : Length). HasElement len place) (sym length_is) (omega (arith, less, many))
 
-    by_element : (q : Question) (array : SymValue) (place : ℕ) (index : TermId) → an_element (stack_of state.stage) ≡ Some (array, index) → state.chosen ≡ Some place
+    by_element : (q : Question) (array : SymValue) (place : ℕ) (index : TermId) → an_element (known_stack state) ≡ Some (array, index) → state.chosen ≡ Some place
         → (it : Array) → array_of state (takes_component elem) array ≡ Some it → asks_element state array place it.component ≡ Some q → IsRight q
     by_element q (Obj number) place index operands chosen it found asks = go (find_cell state.cells number place) refl asks where
       go : (cell : Option Cell) → find_cell state.cells number place ≡ cell → first_ask (Element number place) it.component cell ≡ Some q → IsRight q
@@ -371,23 +382,28 @@ module _ (world : World) (bounds : Bounds) (state : State) (linked : IsLinked wo
 
     -- where the instruction takes the array and the index from the stack
     index_asked : (array : SymValue) (x : TermId) (such : JType → Bool) (it : Array) → state.chosen ≡ None → index_on (stack_of state.stage) instr ≡ Some (Int x)
-        → array_on (stack_of state.stage) instr ≡ Some array → array_of state such array ≡ Some it → questions.Index x it.length ≡ q → IsRight q
+        → option_map (known state) (array_on (stack_of state.stage) instr) ≡ Some array → array_of state such array ≡ Some it → questions.Index x it.length ≡ q → IsRight q
     index_asked array x such it chosen index below found same = subst IsRight same (go state.stage refl index below) where
       nothing_on : (i : Instr) → index_on [] i ≡ None
       nothing_on (instrs.LoadElem elem) = refl
       nothing_on (instrs.StoreElem elem) = refl
       nothing_on _ = refl
 
-      go : (stage : Stage) → state.stage ≡ stage → index_on (stack_of stage) instr ≡ Some (Int x) → array_on (stack_of stage) instr ≡ Some array → IsAskedIndex world bounds state x it.length
+      of_known : (own : Option SymValue) → option_map (known state) own ≡ Some array → option_and_then (λ (value : SymValue). length_of state (known state value)) own ≡ Some it.length
+      of_known None e = absurd cc
+      of_known (Some own) e = ap (length_of state) (same_Some (known state own) array e) ∙ long_as state such array it found
+
+      go : (stage : Stage) → state.stage ≡ stage → index_on (stack_of stage) instr ≡ Some (Int x) → option_map (known state) (array_on (stack_of stage) instr) ≡ Some array → IsAskedIndex world bounds state x it.length
       go (Begins read) is top under = absurd (none-some (Int x) (sym (nothing_on instr) ∙ top))
       go (Runs frame callers) is top under = record {
         by = asked_there frame callers is (questions.Index x it.length) same;
         unchosen = chosen;
         index_is = ap (index_next world state.method) is ∙ (ap (option_and_then (index_on frame.stack)) (sym (ap (instruction_next world state.method) is) ∙ instruction) ∙ top);
         length_is =
-            ap (λ (stage : Stage). option_and_then (length_of state) (array_next world state.method stage)) is
-            ∙ (ap (λ (o : Option Instr). option_and_then (length_of state) (option_and_then (array_on frame.stack) o)) (sym (ap (instruction_next world state.method) is) ∙ instruction)
-            ∙ (ap (option_and_then (length_of state)) under ∙ long_as state such array it found));
+            ap (λ (stage : Stage). option_and_then (λ (value : SymValue). length_of state (known state value)) (array_next world state.method stage)) is
+            ∙ (ap (λ (o : Option Instr). option_and_then (λ (value : SymValue). length_of state (known state value)) (option_and_then (array_on frame.stack) o))
+            (sym (ap (instruction_next world state.method) is) ∙ instruction)
+            ∙ of_known (array_on frame.stack instr) under);
       }
 
     length_asked : (typed : Bool) → (typed ≡ true → IsMaking world state instr) → asks_length state bounds.run.alloc typed ≡ Some q → IsRight q
@@ -405,8 +421,15 @@ module _ (world : World) (bounds : Bounds) (state : State) (linked : IsLinked wo
   -- ---- the instructions
 
   module _ (within : nat_le bounds.run.steps state.carried ≡ false) (q : Question) where
+    -- what is known so deep on the stack, by the name that it has there
+    own_int : (depth : ℕ) (x : TermId) → slice_get (known_stack state) depth ≡ Some (Int x) → slice_get (stack_of state.stage) depth ≡ Some (Int x)
+    own_int depth x e = int_known state (slice_get (stack_of state.stage) depth) x (sym (known_there state depth) ∙ e)
+
+    own_value : (depth : ℕ) (value : SymValue) → slice_get (known_stack state) depth ≡ Some value → option_map (known state) (slice_get (stack_of state.stage) depth) ≡ Some value
+    own_value depth value e = sym (known_there state depth) ∙ e
+
     by_value : (entry : ℕ) → instruction_next world state.method state.stage ≡ Some (instrs.GetField entry) → (field : FieldSlot) → field_named world state entry ≡ Some field → (it : Option SymValue)
-        → slice_get (stack_of state.stage) 0 ≡ it → asks_field world state field it ≡ Some q → IsRight q
+        → slice_get (known_stack state) 0 ≡ it → asks_field world state field it ≡ Some q → IsRight q
     by_value entry instruction field named (Some (Obj number)) top asks = by_cell within entry instruction field named number top q (cell_of world state field number) refl asks
     by_value entry instruction field named (Some (Int term)) top asks = absurd (none-some q asks)
     by_value entry instruction field named (Some Null) top asks = absurd (none-some q asks)
@@ -417,45 +440,77 @@ module _ (world : World) (bounds : Bounds) (state : State) (linked : IsLinked wo
 
     -- a load asks for its place, and then for what is there
     by_load : (elem : Elem) → instruction_next world state.method state.stage ≡ Some (instrs.LoadElem elem) → asked_by bounds world state (instrs.LoadElem elem) ≡ Some q
-        → (array : SymValue) (x : TermId) → an_element (stack_of state.stage) ≡ Some (array, x) → (it : Array) → array_of state (takes_component elem) array ≡ Some it
+        → (array : SymValue) (x : TermId) → an_element (known_stack state) ≡ Some (array, x) → (it : Array) → array_of state (takes_component elem) array ≡ Some it
         → (chosen : Option ℕ) → state.chosen ≡ chosen → asks_place state array x it chosen ≡ Some q → IsRight q
     by_load elem instruction asks_it array x operands it found None none e =
-        let parts = two_parts (stack_of state.stage) (array, x) operands in
-        index_asked within q (instrs.LoadElem elem) instruction asks_it array x (takes_component elem) it none (int_there (slice_get (stack_of state.stage) 0) x parts.index)
-        (reference_is (slice_get (stack_of state.stage) 1) array parts.array) found (same_Some (questions.Index x it.length) q e)
+        let parts = two_parts (known_stack state) (array, x) operands in
+        index_asked within q (instrs.LoadElem elem) instruction asks_it array x (takes_component elem) it none (own_int 0 x (int_there (slice_get (known_stack state) 0) x parts.index))
+        (own_value 1 array (reference_is (slice_get (known_stack state) 1) array parts.array)) found (same_Some (questions.Index x it.length) q e)
     by_load elem instruction asks_it array x operands it found (Some place) chosen e =
         by_element within elem instruction q array place x operands chosen it found e
 
     -- and a store for its place alone
     by_store : (elem : Elem) → instruction_next world state.method state.stage ≡ Some (instrs.StoreElem elem) → asked_by bounds world state (instrs.StoreElem elem) ≡ Some q
-        → (array : SymValue) (x : TermId) (value : SymValue) → an_element_and_value elem (stack_of state.stage) ≡ Some (array, x, value)
+        → (array : SymValue) (x : TermId) (value : SymValue) → an_element_and_value elem (known_stack state) ≡ Some (array, x, value)
         → (it : Array) → array_of state (takes_component elem) array ≡ Some it
         → (chosen : Option ℕ) → state.chosen ≡ chosen → asks_unless chosen (questions.Index x it.length) ≡ Some q → IsRight q
     by_store elem instruction asks_it array x value operands it found None none e =
-        let parts = three_parts elem (stack_of state.stage) (array, x, value) operands in
-        index_asked within q (instrs.StoreElem elem) instruction asks_it array x (takes_component elem) it none (int_there (slice_get (stack_of state.stage) 1) x parts.index)
-        (reference_is (slice_get (stack_of state.stage) 2) array parts.array) found (same_Some (questions.Index x it.length) q e)
+        let parts = three_parts elem (known_stack state) (array, x, value) operands in
+        index_asked within q (instrs.StoreElem elem) instruction asks_it array x (takes_component elem) it none (own_int 1 x (int_there (slice_get (known_stack state) 1) x parts.index))
+        (own_value 2 array (reference_is (slice_get (known_stack state) 2) array parts.array)) found (same_Some (questions.Index x it.length) q e)
     by_store elem instruction asks_it array x value operands it found (Some place) chosen e = absurd (none-some q e)
 
-    by_instruction : (instr : Instr) → instruction_next world state.method state.stage ≡ Some instr → asked_by bounds world state instr ≡ Some q → IsRight q
-    by_instruction (instrs.GetField entry) at asks =
-        option_and_then_some (λ (field : FieldSlot). asks_field world state field (slice_get (stack_of state.stage) 0)) (field_named world state entry) q asks
-        (λ field named there. by_value entry at field named (slice_get (stack_of state.stage) 0) refl there)
-    by_instruction (instrs.LoadElem elem) at asks =
-        option_and_then_some (λ (t : SymValue × TermId). option_and_then (λ (it : Array). asks_place state t.0 t.1 it state.chosen) (array_of state (takes_component elem) t.0)) (an_element (stack_of state.stage)) q asks
+    -- where nothing is open that it looks into
+    by_rest : (instr : Instr) → instruction_next world state.method state.stage ≡ Some instr → asked_by bounds world state instr ≡ Some q → asked_beside bounds world state instr ≡ Some q → IsRight q
+    by_rest (instrs.GetField entry) at asked asks =
+        option_and_then_some (λ (field : FieldSlot). asks_field world state field (slice_get (known_stack state) 0)) (field_named world state entry) q asks
+        (λ field named there. by_value entry at field named (slice_get (known_stack state) 0) refl there)
+    by_rest (instrs.LoadElem elem) at asked asks =
+        option_and_then_some (λ (t : SymValue × TermId). option_and_then (λ (it : Array). asks_place state t.0 t.1 it state.chosen) (array_of state (takes_component elem) t.0)) (an_element (known_stack state)) q asks
         (λ t operands there.
         option_and_then_some (λ (it : Array). asks_place state t.0 t.1 it state.chosen) (array_of state (takes_component elem) t.0) q there
-        (λ it found e. by_load elem at asks t.0 t.1 operands it found state.chosen refl e))
-    by_instruction (instrs.StoreElem elem) at asks =
+        (λ it found e. by_load elem at asked t.0 t.1 operands it found state.chosen refl e))
+    by_rest (instrs.StoreElem elem) at asked asks =
         option_and_then_some (λ (t : SymValue × TermId × SymValue). option_and_then (λ (it : Array). asks_unless state.chosen (questions.Index t.1 it.length)) (array_of state (takes_component elem) t.0))
-        (an_element_and_value elem (stack_of state.stage)) q asks
+        (an_element_and_value elem (known_stack state)) q asks
         (λ t operands there.
         option_and_then_some (λ (it : Array). asks_unless state.chosen (questions.Index t.1 it.length)) (array_of state (takes_component elem) t.0) q there
-        (λ it found e. by_store elem at asks t.0 t.1 t.2 operands it found state.chosen refl e))
-    by_instruction (instrs.NewPrim code) at asks = length_asked within q (instrs.NewPrim code) at asks (is_some (component_of_code code)) (λ typed. typed) asks
-    by_instruction (instrs.NewRefs entry) at asks =
-        length_asked within q (instrs.NewRefs entry) at asks (is_some (component_of_entry world (here world state) entry)) (λ typed. typed) asks
-    by_instruction _ at asks = absurd (none-some q asks)
+        (λ it found e. by_store elem at asked t.0 t.1 t.2 operands it found state.chosen refl e))
+    by_rest (instrs.NewPrim code) at asked asks = length_asked within q (instrs.NewPrim code) at asked (is_some (component_of_code code)) (λ typed. typed) asks
+    by_rest (instrs.NewRefs entry) at asked asks =
+        length_asked within q (instrs.NewRefs entry) at asked (is_some (component_of_entry world (here world state) entry)) (λ typed. typed) asks
+    by_rest _ at asked asks = absurd (none-some q asks)
+
+    -- a frame is there where something is open
+    access_asked : (instr : Instr) → instruction_next world state.method state.stage ≡ Some instr → asked_by bounds world state instr ≡ Some q → (number : ℕ)
+        → first_open (looked_by world state instr) ≡ Some number → questions.Accesses number ≡ q → IsRight q
+    access_asked instr at asks number first same = subst IsRight same (go state.stage refl)
+      where
+        -- nothing lies on the stack before the first frame
+        none_there : (read : List SymValue) → state.stage ≡ Begins read → (i : ℕ) (value : SymValue) → slice_get (stack_of state.stage) i ≡ Some value → IsClosed (known state value)
+        none_there read is i value there = absurd (none-some value (sym (ap (λ (stage : Stage). slice_get (stack_of stage) i) is) ∙ there))
+
+        go : (stage : Stage) → state.stage ≡ stage → IsAskedAccess world bounds state number
+        go (Begins read) is = absurd (none-some number (sym (looked_closed world state (none_there read is) instr) ∙ first))
+        go (Runs frame callers) is = record {
+          by = record {
+            frame = frame;
+            callers = callers;
+            running = is;
+            within = within;
+            instr = instr;
+            instruction = at;
+            asks = asks ∙ ap (λ (it : Question). Some it) (sym same);
+          };
+          first = first;
+        }
+
+    by_instruction : (instr : Instr) → instruction_next world state.method state.stage ≡ Some instr → asked_by bounds world state instr ≡ Some q → IsRight q
+    by_instruction instr at asks = go (first_open (looked_by world state instr)) refl asks
+      where
+        go : (it : Option ℕ) → first_open (looked_by world state instr) ≡ it → accesses_or it (asked_beside bounds world state instr) ≡ Some q → IsRight q
+        go None is e = by_rest instr at asks e
+        go (Some number) is e = access_asked instr at asks number is (same_Some (questions.Accesses number) q e)
 
   -- the question of the present instruction
   pub next_asked : nat_le bounds.run.steps state.carried ≡ false → (q : Question) (instr : Instr) → instruction_next world state.method state.stage ≡ Some instr → asked_by bounds world state instr ≡ Some q

@@ -12,6 +12,7 @@ pub mod KeepLaws
 pub mod KnownTakes
 pub mod LazyLaws
 pub mod LookLaws
+pub mod LookedLaws
 pub mod MeasureLaws
 pub mod MethodLaws
 pub mod MoreLaws
