@@ -338,6 +338,7 @@ module _ (world : World) (bounds : Bounds) where
           → P (if b then asks state else takes_up plan_of world bounds choice (if b then first_reference world slot choice state else first_int slot (kind_for (Some type)) state))
       go true e = asked (Reads slot type) refl
       go false e = read slot type refl e
+    place_has (Some (questions.Accesses number)) asked up read = asked (questions.Accesses number) refl
     place_has (Some (questions.Index x count)) asked up read = asked (questions.Index x count) refl
     place_has (Some (questions.Length x most)) asked up read = asked (questions.Length x most) refl
 

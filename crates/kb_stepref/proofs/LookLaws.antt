@@ -152,6 +152,10 @@ module _ (world : World) (bounds : Bounds) (state : State) where
 pub ready_alone : (turn : Turn) (field : Option FieldAt) (state : State) → IsReady turn field state → IsReady turn None state
 ready_alone turn field state h = record { terms = h.terms; counts = h.counts; stands = h.stands; read = tt }
 
+pub all_alone : (turn : Option Turn) (field : Option FieldAt) (state : State) → IfSome turn (λ (it : Turn). IsReady it field state) → IfSome turn (λ (it : Turn). IsReady it None state)
+all_alone None field state h = tt
+all_alone (Some turn) field state h = ready_alone turn field state h
+
 -- and when an int was read
 module _ (turn : Turn) (state : State) (slot : Origin) (kind : VarKind) where
   abbrev read_int : State
@@ -353,24 +357,11 @@ module _ (world : World) (bounds : Bounds) (state : State) (at : IsAtReferences 
       read_now : argument_next world placed_state.method placed_state.stage ≡ None
       read_now = ap (λ (m : MethodId). argument_next world m placed_state.stage) stays.method ∙ (ap (argument_next world state.method) (index_stage world choice state x count) ∙ up.read)
 
-      -- an access asks as the instructions on arrays do
       same_instr : is.by.instr ≡ turn.instr.now
       same_instr = same_Some is.by.instr turn.instr.now (sym is.by.instruction ∙ ap (option_map (λ (f : Instr × ℕ). f.0)) up.here)
 
-      asks_alike : asks bounds turn.world.now placed_state turn.instr.now ≡ asked_next (asked_by bounds) world placed_state
-      asks_alike =
-          ap (λ (w : World). asks bounds w placed_state turn.instr.now) is_turn.world_is
-          ∙ (sym (else_asked bounds world placed_state turn.instr.now (no_field turn.instr.now (subst (λ (i : Instr). index_on is.by.frame.stack i ≡ Some (Int x)) same_instr top)))
-          ∙ sym (ap (option_and_then (asked_by bounds world placed_state)) next_now))
-        where
-          top : index_on is.by.frame.stack is.by.instr ≡ Some (Int x)
-          top =
-              sym (ap (option_and_then (index_on is.by.frame.stack)) (sym (ap (instruction_next world state.method) is.by.running) ∙ is.by.instruction))
-              ∙ (sym (ap (index_next world state.method) is.by.running) ∙ is.index_is)
-
-          no_field : (instr : Instr) → index_on is.by.frame.stack instr ≡ Some (Int x) → asks_read world placed_state instr ≡ None
-          no_field (instrs.GetField entry) e = absurd (none-some (Int x) e)
-          no_field _ e = refl
+      asks_alike : asked_by bounds turn.world.now placed_state turn.instr.now ≡ asked_next (asked_by bounds) world placed_state
+      asks_alike = ap (λ (w : World). asked_by bounds w placed_state turn.instr.now) is_turn.world_is ∙ sym (ap (option_and_then (asked_by bounds world placed_state)) next_now)
 
       place_taken : (q : Option Question) → asked_next (asked_by bounds) world placed_state ≡ q → behind_chosen turn choice placed_state q ≡ behind_told plan_of world bounds choice placed_state q
       place_taken None e = carries_on
@@ -394,18 +385,19 @@ module _ (world : World) (bounds : Bounds) (state : State) (at : IsAtReferences 
         go false =
             taken_behind plan_of world bounds choice state turn read ((int_tells slot kind placed_state).method ∙ stays.method)
             (inside_int world bounds placed_state slot type kind element read_now ∙ index_stage world choice state x count) is_turn found
+      place_taken (Some (questions.Accesses number)) e = refl
       place_taken (Some (questions.Index y n)) e = refl
       place_taken (Some (questions.Length y n)) e = refl
 
-      index_taken : None ≡ passed_by choice → behind_choice (asks bounds) turn choice placed_state ≡ answers (asked_by bounds) plan_of world bounds choice state (questions.Index x count)
+      index_taken : None ≡ passed_by choice → behind_choice (asked_by bounds) turn choice placed_state ≡ answers (asked_by bounds) plan_of world bounds choice state (questions.Index x count)
       index_taken passed =
           by_choice choice carries_on (λ q e. place_taken q e) asks_alike
           ∙ ap (λ (bound : Option Bound). cut_where bound placed_state (behind_index (asked_by bounds) plan_of world bounds choice placed_state)) passed
         where
           by_choice : (it : Choice) → carries turn it placed_state ≡ takes_up plan_of world bounds it placed_state
               → ((q : Option Question) → asked_next (asked_by bounds) world placed_state ≡ q → behind_chosen turn it placed_state q ≡ behind_told plan_of world bounds it placed_state q)
-              → asks bounds turn.world.now placed_state turn.instr.now ≡ asked_next (asked_by bounds) world placed_state
-              → behind_choice (asks bounds) turn it placed_state ≡ behind_index (asked_by bounds) plan_of world bounds it placed_state
+              → asked_by bounds turn.world.now placed_state turn.instr.now ≡ asked_next (asked_by bounds) world placed_state
+              → behind_choice (asked_by bounds) turn it placed_state ≡ behind_index (asked_by bounds) plan_of world bounds it placed_state
           by_choice (Index place) on at_place alike =
               ap (behind_chosen turn (Index place) placed_state) alike ∙ at_place (asked_next (asked_by bounds) world placed_state) refl
           by_choice _ on at_place alike = on
@@ -413,7 +405,7 @@ module _ (world : World) (bounds : Bounds) (state : State) (at : IsAtReferences 
     -- ---- behind a length
 
     length_taken : (x : TermId) (most : ℕ) (choice : Choice) → IsLengthUpTo most choice → None ≡ passed_by choice
-        → behind_choice (asks bounds) turn choice (answered world choice state (questions.Length x most)) ≡ answers (asked_by bounds) plan_of world bounds choice state (questions.Length x most)
+        → behind_choice (asked_by bounds) turn choice (answered world choice state (questions.Length x most)) ≡ answers (asked_by bounds) plan_of world bounds choice state (questions.Length x most)
     length_taken x most choice is passed =
         by_choice choice is
         (taken_behind plan_of world bounds choice state turn new (length_stays world choice state x most).method (ap (λ (s : State). s.stage) (all_asked_grows (length_conditions x most choice) state).rest) is_turn found)
@@ -422,7 +414,7 @@ module _ (world : World) (bounds : Bounds) (state : State) (at : IsAtReferences 
         new : State
         new = answered world choice state (questions.Length x most)
 
-        by_choice : (it : Choice) → IsLengthUpTo most it → carries turn it new ≡ takes_up plan_of world bounds it new → behind_choice (asks bounds) turn it new ≡ takes_up plan_of world bounds it new
+        by_choice : (it : Choice) → IsLengthUpTo most it → carries turn it new ≡ takes_up plan_of world bounds it new → behind_choice (asked_by bounds) turn it new ≡ takes_up plan_of world bounds it new
         by_choice Negative is on = on
         by_choice (Size count) is on = on
         by_choice TooLarge is on = on
@@ -467,7 +459,7 @@ module _ (world : World) (bounds : Bounds) (state : State) (at : IsAtReferences 
 
   -- what is chosen
   abbrev LeadsBehind : Choice → State → Take → Option Turn → Type 0
-  LeadsBehind choice new take it = IfSome it (λ (turn : Turn). take ≡ behind_choice (asks bounds) turn choice new)
+  LeadsBehind choice new take it = IfSome it (λ (turn : Turn). take ≡ behind_choice (asked_by bounds) turn choice new)
 
   pub told_index : (choice : Choice) (x : TermId) (count : ℕ) → question_of world state bounds ≡ Some (questions.Index x count) → Has (alternatives world state bounds (questions.Index x count)) choice
       → None ≡ passed_by choice → (take : Take) → LeadsBehind choice (answered world choice state (questions.Index x count)) take look.turn

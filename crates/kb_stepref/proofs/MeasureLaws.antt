@@ -35,7 +35,7 @@ use Rattle.kb_ways.specs.Simulation.{GetsOn}
 use Rattle.kb_ways.specs.Ways.{Take, ill_typed}
 use Rattle.kb_ways.proofs.GrowLaws.{all_asked_grows, if_has, option_has}
 use Rattle.kb_ways.proofs.KeepLaws.{Stays}
-use Rattle.kb_ways.proofs.MeasureLaws.{argument_on, place_on, went_on}
+use Rattle.kb_ways.proofs.MeasureLaws.{argument_on, place_on, store_on, went_on}
 use Rattle.kb_steparray.specs.Arrays.{Array, array_of}
 use Rattle.kb_steparray.specs.Operands.{an_element_and_value}
 use Rattle.kb_steparray.specs.Questions.{asks_store, asks_unless}
@@ -54,14 +54,6 @@ use Rattle.kb_stepref.proofs.FirstReadLaws.{IsAsked, IsAskedArgument, IsAskedInd
 use Rattle.kb_stepref.proofs.KeepLaws.{index_carried, index_has, index_stage, index_stays, int_tells, plan_writes}
 use Rattle.kb_stepref.proofs.SoundLaws.{answered_carried}
 use Rattle.kb_picture.specs.declared.choice.Choice.TheVariants.{Index, Only}
-
--- a store whose place is chosen asks nothing
-store_quiet : (state : State) (elem : Elem) (place : ℕ) → state.chosen ≡ Some place → (operands : Option (SymValue × TermId × SymValue)) → asks_store state elem operands ≡ None
-store_quiet state elem place chosen None = refl
-store_quiet state elem place chosen (Some t) = go (array_of state (takes_component elem) t.0) where
-  go : (it : Option Array) → option_and_then (λ (a : Array). asks_unless state.chosen (questions.Index t.1 a.length)) it ≡ None
-  go None = refl
-  go (Some a) = ap (λ (c : Option ℕ). asks_unless c (questions.Index t.1 a.length)) chosen
 
 module _ (world : World) (bounds : Bounds) (old : State) where
   abbrev Gets : Take → Type 0
@@ -124,13 +116,16 @@ module _ (world : World) (bounds : Bounds) (old : State) where
       same_stage : told.stage ≡ old.stage
       same_stage = index_stage world choice old x count
 
+      same_picture : told.picture ≡ old.picture
+      same_picture = stays.picture
+
       same_carried : told.carried ≡ old.carried
       same_carried = index_carried world choice old x count
 
       next_there : (instr : Instr) → instruction_next world old.method old.stage ≡ Some instr → instruction_next world told.method told.stage ≡ Some instr
       next_there instr there = ap (λ (m : MethodId). instruction_next world m told.stage) stays.method ∙ (ap (instruction_next world old.method) same_stage ∙ there)
 
-      -- of a load the element is left to be told, and of a store nothing
+      -- of a load the element is left to be told, and of a store the value that is stored
       asks_less : (place : ℕ) (q : Question) → choice ≡ Index place → asked_next (asked_by bounds) world told ≡ Some q → Gets (asks told)
       asks_less place q chosen asked = by_instruction is.by.instr is.by.instruction top where
         placed_now : told.chosen ≡ Some place
@@ -146,9 +141,9 @@ module _ (world : World) (bounds : Bounds) (old : State) where
 
         by_instruction : (instr : Instr) → instruction_next world old.method old.stage ≡ Some instr → index_on is.by.frame.stack instr ≡ Some (Int x) → Gets (asks told)
         by_instruction (instrs.LoadElem elem) there at =
-            (same_carried, place_on world bounds old told elem place unread there is.unchosen stays.method same_stage placed_now)
+            (same_carried, place_on world bounds old told elem place unread there is.unchosen stays.method same_stage same_picture placed_now)
         by_instruction (instrs.StoreElem elem) there at =
-            absurd (none-some q (sym (store_quiet told elem place placed_now (an_element_and_value elem (stack_of told.stage))) ∙ (sym (ap (option_and_then (asked_by bounds world told)) (next_there (instrs.StoreElem elem) there)) ∙ asked)))
+            (same_carried, store_on world bounds old told elem place unread there is.unchosen stays.method same_stage same_picture placed_now)
         by_instruction _ there at = absurd (none-some (Int x) at)
 
       index_on_less : Gets (answers (asked_by bounds) plan_of world bounds choice old (questions.Index x count))
