@@ -6,7 +6,6 @@ use Rattle.std.proofs.lemmas.List.{reverse-append}
 use Rattle.std.proofs.lemmas.Option.{none-some, same_Some}
 use Rattle.kb_arith.specs.Word.{truth}
 use Rattle.kb_class.specs.declared.members.MethodInfo.{MethodInfo}
-use Rattle.kb_names.specs.declared.types.ExactType.{ExactType}
 use Rattle.kb_heap.specs.declared.bounds.Bounds.{Bounds}
 use Rattle.kb_heap.specs.declared.heap.Object.{Object}
 use Rattle.kb_heap.specs.declared.heap.Value.{Value}
@@ -38,7 +37,7 @@ use Rattle.kb_ways.specs.Plans.{Planned, followed, plain, planned, here, pushes_
 use Rattle.kb_ways.specs.Ways.{Enters, Fails, Throws, with_stack}
 use Rattle.kb_stepcall.specs.Calls.{calls, calls_method, calls_on, invokes, on_object, selected_for}
 use Rattle.kb_ways.specs.Types.{object_type}
-use Rattle.kb_ways.proofs.PlannedLaws.{Follows, IsPlan, Situation, fails_is, if_is, number_is, plain_is, plan_follows, so, stack_is, state_of, there_is, with_is, with_same}
+use Rattle.kb_ways.proofs.PlannedLaws.{Follows, IsPlan, Situation, fails_is, if_is, number_is, plain_is, plan_follows, so, stack_is, state_of, there_is, with_is}
 use Rattle.kb_stepcall.specs.Operands.{are_of_kinds, argument_of, operand_types, operands_of, receiver_of, reference_at, topmost}
 use Rattle.kb_stepcall.specs.Looked.{compared_sides, looked_by_call, looked_by_calls}
 use Rattle.kb_stepcall.specs.Platform.{answers_at_once, equals}

@@ -61,9 +61,9 @@ use Rattle.kb_stepref.specs.Choices.{alternatives}
 use Rattle.kb_stepref.specs.Effects.{plan_of}
 use Rattle.kb_stepref.specs.Laws.{IsAtReferences}
 use Rattle.kb_stepref.specs.Looks.{HasIntOf, IsLookAt, IsReadAt, IsReadBy, IsReady, asks_at_turn, behind, behind_choice, behind_chosen, carries}
-use Rattle.kb_stepref.specs.Questions.{argument_or, asked_at, asked_by, asks_read, question_of}
+use Rattle.kb_stepref.specs.Questions.{argument_or, asked_at, asked_by, question_of}
 use Rattle.kb_stepref.proofs.ChosenStates.{IsIndexOf, IsKnown, IsLengthUpTo, index_is, index_known, index_term, length_is, length_known, length_term}
-use Rattle.kb_stepref.proofs.FieldReads.{begun_read, else_asked, if_there, same_read, told_read}
+use Rattle.kb_stepref.proofs.FieldReads.{begun_read, if_there, same_read, told_read}
 use Rattle.kb_stepref.proofs.FirstReadLaws.{IsAskedArgument, IsAskedAt, IsAskedBy, IsAskedIndex, IsAskedLength, asked, asked_at_references, next_asked}
 use Rattle.kb_stepref.proofs.KeepLaws.{index_carried, index_stage, index_stays, int_kept, int_tells, length_stays}
 use Rattle.kb_stepref.proofs.ReachedLaws.{now_known}

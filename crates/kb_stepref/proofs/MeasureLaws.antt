@@ -1,19 +1,15 @@
 -- Each take of a step on references leaves fewer choices before the same instruction, or has carried out one more.
-use Rattle.std.proofs.Common.{◌≡◌, ℕ, ◌-◌, ◌<◌, [], ◌∷◌, ◌++◌, length, length-append, nat_le, Option, Some, None, refl, sym, ap, subst, ◌∙◌, option_and_then}
+use Rattle.std.proofs.Common.{◌≡◌, ℕ, ◌-◌, ◌<◌, [], ◌∷◌, ◌++◌, length, nat_le, Option, Some, None, refl, sym, ap, subst, ◌∙◌, option_and_then}
 use Rattle.std.specs.Option.{option_map_or}
 use Rattle.std.proofs.lemmas.Option.{none-some}
 use Rattle.kb_class.specs.declared.ids.MethodId.{MethodId}
-use Rattle.kb_class.specs.declared.members.MethodInfo.{MethodInfo}
-use Rattle.kb_code.specs.declared.instruction.Elem.{Elem}
 use Rattle.kb_code.specs.declared.instruction.Instr.{Instr}
 use Rattle.kb_code.specs.declared.instruction.Instr.TheVariants as instrs
 use Rattle.kb_heap.specs.declared.bounds.Bound.{Bound}
 use Rattle.kb_heap.specs.declared.bounds.Bounds.{Bounds}
 use Rattle.kb_classes.specs.World.{World}
 use Rattle.kb_names.specs.declared.types.JType.{JType}
-use Rattle.kb_semantics.specs.Config.{info_of, instruction_at}
-use Rattle.kb_semantics.specs.Inputs.{argument_types}
-use Rattle.kb_semantics.specs.Values.{takes_component}
+use Rattle.kb_semantics.specs.Config.{instruction_at}
 use Rattle.kb_terms.specs.declared.node.TermId.{TermId}
 use Rattle.kb_picture.specs.declared.choice.Choice.{Choice}
 use Rattle.kb_picture.specs.declared.picture.Origin.{Origin}
@@ -21,13 +17,11 @@ use Rattle.kb_picture.specs.declared.picture.Origin.TheVariants.{Arg, Field, Ele
 use Rattle.kb_picture.specs.Queries.{kind_for}
 use Rattle.kb_picture.specs.WellTyped.{is_reference_type}
 use Rattle.kb_frames.specs.declared.state.Stage.{Stage}
-use Rattle.kb_frames.specs.declared.state.Stage.TheVariants.{Begins, Runs}
-use Rattle.kb_frames.specs.declared.value.SymValue.{SymValue}
 use Rattle.kb_frames.specs.declared.value.SymValue.TheVariants.{Int}
 use Rattle.kb_frames.specs.declared.value.Outcome.TheVariants.{Asks}
 use Rattle.kb_frames.specs.Arrays.{index_next, index_on}
 use Rattle.kb_frames.specs.FirstReads.{first_int, first_reference, value_chosen}
-use Rattle.kb_frames.specs.Lent.{begun, stack_of}
+use Rattle.kb_frames.specs.Lent.{begun}
 use Rattle.kb_ways.specs.Measure.{choices_left, unread_at}
 use Rattle.kb_frames.specs.Next.{argument_next, instruction_next, method_now, offset_now}
 use Rattle.kb_frames.specs.State.{State}
@@ -36,9 +30,6 @@ use Rattle.kb_ways.specs.Ways.{Take, ill_typed}
 use Rattle.kb_ways.proofs.GrowLaws.{all_asked_grows, if_has, option_has}
 use Rattle.kb_ways.proofs.KeepLaws.{Stays}
 use Rattle.kb_ways.proofs.MeasureLaws.{argument_on, place_on, store_on, went_on}
-use Rattle.kb_steparray.specs.Arrays.{Array, array_of}
-use Rattle.kb_steparray.specs.Operands.{an_element_and_value}
-use Rattle.kb_steparray.specs.Questions.{asks_store, asks_unless}
 use Rattle.kb_stepref.specs.Effects.{plan_of}
 use Rattle.kb_stepref.specs.Laws.{IsAtReferences}
 use Rattle.kb_ways.specs.declared.question.Question.{Question}

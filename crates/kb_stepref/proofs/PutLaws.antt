@@ -44,8 +44,8 @@ use Rattle.kb_ways.proofs.KnownLaws.{IsClosed, each_known, first_closed, rest_sa
 use Rattle.kb_ways.proofs.PlannedLaws.{Follows, Situation, known_is, known_reference_there, state_of}
 use Rattle.kb_stepref.specs.Looked.{looked_by_put}
 use Rattle.kb_ways.proofs.PutLaws.{HasSlot, puts_follow as kept_follow}
-use Rattle.kb_stepref.proofs.ReferenceLaws.{IsReference, kept_of, object_and_value_are, pair_below, reference_kind, referred}
-use Rattle.kb_ways.proofs.KeptLaws.{reference_is, of_kind_is}
+use Rattle.kb_stepref.proofs.ReferenceLaws.{IsReference, kept_of, object_and_value_are, pair_below, referred}
+use Rattle.kb_ways.proofs.KeptLaws.{of_kind_is}
 
 -- where a state has a place for the field, it has the slot, and so has the heap
 slot_there : (world : World) (bounds : Bounds) (at : Situation world bounds) (field : FieldSlot) (object : SymValue) → IsSymValue world (state_of world bounds at) object

@@ -29,7 +29,7 @@ use Rattle.kb_frames.specs.FirstReads.{first_int, with_read}
 use Rattle.kb_frames.specs.Heaps.{find_cell}
 use Rattle.kb_frames.specs.Lent.{read_count, stack_of, transfers_of}
 use Rattle.kb_ways.specs.Known.{known_stack, open_loc}
-use Rattle.kb_ways.specs.Measure.{choices_left, left_of, needed, open_lowest, open_at, open_for, open_value, questions_of, questions_of_op, unchosen, unknown, unread_at, untouched, untouched_in}
+use Rattle.kb_ways.specs.Measure.{choices_left, left_of, needed, open_lowest, open_at, open_for, open_value, questions_of_op, unchosen, unknown, unread_at, untouched, untouched_in}
 use Rattle.kb_ways.specs.Plans.{here}
 use Rattle.kb_semantics.specs.Instructions.{Callee, callee_at}
 use Rattle.kb_picture.specs.declared.picture.Picture.{Picture}
