@@ -246,7 +246,6 @@ module _ (world : World) (bounds : Bounds) (old : State) (at : IsAtReferences wo
       input = input;
       config = c;
       sound = sound;
-      known = at.known;
       correct = correct;
       stands = it;
     }

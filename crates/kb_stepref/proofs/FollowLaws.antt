@@ -250,15 +250,15 @@ module _ (world : World) (bounds : Bounds) (new : State) (known : IsKnown world 
     (within : nat_le bounds.run.steps new.carried ≡ false) (references : AreReferences world new) (choice : Choice) (input : Input) (correct : IsTypeCorrect world new.method input) (c : Config)
     (stands : IsInstanceOf (takes_up plan_of world bounds choice new).state input → StandsFor (setting_of world bounds) new input c) where
   abbrev IsAllTold : Type 0
-  IsAllTold = AreAllTold world bounds new known.known ordered linked known.bounded input correct c within choice frame callers
+  IsAllTold = AreAllTold world bounds new ordered linked known.bounded input correct c within choice frame callers
 
   told_follows : IsAllTold → FollowsAt world bounds input c (takes_up plan_of world bounds choice new)
   told_follows told i =
-      takes_up_follows world bounds new frame callers running known.sound known.known ordered linked known.bounded input correct c (stands i) within choice told i
+      takes_up_follows world bounds new frame callers running known.sound ordered linked known.bounded input correct c (stands i) within choice told i
 
   quiet_follows : (old : State) → IsQuiet world bounds old new → new.method ≡ old.method → new.stage ≡ old.stage → FollowsAt world bounds input c (takes_up plan_of world bounds choice new)
   quiet_follows old it method stage =
-      told_follows (quiet_all_told world bounds new known.known ordered linked known.bounded input correct c within choice frame callers
+      told_follows (quiet_all_told world bounds new ordered linked known.bounded input correct c within choice frame callers
       (subst (λ (st : Stage). AreTold world bounds (record new { stage = st })) running all_told))
     where
       there : instruction_next world new.method new.stage ≡ Some it.instr
@@ -454,7 +454,7 @@ module _ (world : World) (bounds : Bounds) (old : State) (at : IsAtReferences wo
     module _ (sound : Sound world outer_running) (there : StandsFor (setting_of world bounds) outer_running input c) where
       abbrev situation : Situation world bounds
       situation =
-          situated world bounds outer (known Outside has).known (told_ordered Outside has) at.linked (known Outside has).bounded input (told_correct Outside has) c (told_within Outside has) Outside
+          situated world bounds outer (told_ordered Outside has) at.linked (known Outside has).bounded input (told_correct Outside has) c (told_within Outside has) Outside
           is.by.frame is.by.callers sound there
 
       abbrev r : Reading
@@ -574,7 +574,7 @@ module _ (world : World) (bounds : Bounds) (old : State) (at : IsAtReferences wo
 
     abbrev sized_at : Situation world bounds
     sized_at =
-        situated world bounds sized sized_known.known (length_ordered world bounds old at x most is choice) at.linked sized_known.bounded input sized_correct c sized_within choice frame callers sound there
+        situated world bounds sized (length_ordered world bounds old at x most is choice) at.linked sized_known.bounded input sized_correct c sized_within choice frame callers sound there
 
     -- what is so of the length of each instance of an alternative
     abbrev IsSo : (ℤ → Type 0) → Choice → Type 0

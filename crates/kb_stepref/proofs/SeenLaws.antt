@@ -307,7 +307,6 @@ module _ (world : World) (bounds : Bounds) (old : State) (at : IsKnown world old
       input = input;
       config = c;
       sound = sound;
-      known = at.known;
       correct = correct;
       stands = it;
     }
