@@ -58,6 +58,7 @@ fn asked_of(
 
 /// What an instruction asks: which object the first open location is that it looks into, and where there is none what a field
 /// holds that it reads, or what another instruction must be told.
+#[tactic(auto, using(crate::proofs::FieldReads::read_asked, crate::proofs::FieldReads::else_asked))]
 pub(crate) fn asked_by(
     alloc: Global,
     world: &World,
