@@ -1,9 +1,10 @@
 -- A state whose location is bound by a choice is one of those to which calls lead, and it stands for the configuration for which
 -- it stood: the places grow at their end, so that all values keep their values, and a new object is as it was at the start.
-use Rattle.std.proofs.Common.{◌≡◌, ◌↔◌, ℕ, zero, suc, ℤ, List, [], ◌∷◌, ◌++◌, length, map, drop, filter_map, Option, Some, option_and_then, slice_get, refl, sym, ap, subst, ◌∙◌, arith, length-append}
+use Rattle.std.proofs.Common.{◌≡◌, ◌≢◌, ◌↔◌, ℕ, zero, suc, ℤ, List, [], ◌∷◌, ◌++◌, length, map, drop, filter_map, Option, Some, option_and_then, slice_get, slice_set, refl, sym, ap, subst, ◌∙◌, arith, length-append}
 use Rattle.std.proofs.lemmas.List.{length-replicate}
 use Rattle.std.specs.List.{cons_option}
-use Rattle.std.specs.Option.{option_map}
+use Rattle.std.specs.Option.{option_map, option_map_or}
+use Rattle.kb_class.proofs.Lists.{set_other}
 use Rattle.kb_blast.specs.Meaning.{AreMetInPool}
 use Rattle.kb_class.specs.declared.ids.MethodId.{MethodId}
 use Rattle.kb_heap.specs.declared.heap.Heap.{Heap}
@@ -37,7 +38,12 @@ use Rattle.kb_picture.specs.declared.picture.Seen.{Seen}
 use Rattle.kb_picture.specs.Accesses.{IsOpenFrom, IsOpenAt}
 use Rattle.kb_picture.specs.Endings.{Reading}
 use Rattle.kb_picture.specs.Growing.{IsChoiceIn}
-use Rattle.kb_picture.specs.Growth.{after_access}
+use Rattle.kb_picture.specs.Growth.{after_access, with_fresh, with_standing}
+use Rattle.kb_frames.specs.Resolved.{resolved_loc, standing_value}
+use Rattle.kb_frames.specs.declared.value.SymValue.TheVariants.{Obj, Loc}
+use Rattle.kb_picture.specs.declared.picture.Standing.TheVariants as standings
+use Rattle.kb_picture.specs.declared.picture.Standing.{Standing}
+use Rattle.kb_picture.specs.declared.picture.PicLoc.{PicLoc}
 use Rattle.kb_picture.specs.Instances.{variable_value, variable_values}
 use Rattle.kb_picture.specs.Places.{slot_value}
 use Rattle.kb_picture.specs.Queries.{component_of, kind_for, kind_seen, kinds_seen, slot_of_class, type_of_slot}
@@ -103,6 +109,35 @@ one_row world state object row has zero o r at there =
     let other : row ≡ r = cc in
     subst (λ (x : PicObject). HasRow world state x r) one (subst (HasRow world state object) other has)
 one_row world state object row has (suc n) o r at there = absurd cc
+
+-- ---- the other locations
+
+-- one that is bound is another one than the one that is open, and stays as it is
+locs_kept : (picture : Picture) (number : ℕ) (origin : Origin) (choice : Choice) → IsOpenFrom picture number origin → (other object : ℕ) → resolved_loc picture.locs other ≡ Obj object
+    → resolved_loc (after_access picture number choice).locs other ≡ Obj object
+unfolding after_access
+locs_kept picture number origin choice is_open other object is = go choice
+  where
+    apart : number ≢ other
+    apart same = no_object (sym (ap (λ (it : Option PicLoc). option_map_or (λ (l : PicLoc). standing_value other l.standing) it (Loc other)) (ap (slice_get picture.locs) (sym same) ∙ is_open)) ∙ is) where
+      no_object : Loc other ≡ Obj object → ⊥
+      no_object e = cc
+
+    stays : (standing : Standing) → resolved_loc (slice_set picture.locs number (record { origin = origin; standing = standing })) other ≡ Obj object
+    stays standing =
+        ap (λ (it : Option PicLoc). option_map_or (λ (l : PicLoc). standing_value other l.standing) it (Loc other)) (set_other picture.locs number other (record { origin = origin; standing = standing }) apart) ∙ is
+
+    bound_to : (objects : List PicObject) (standing : Standing) → resolved_loc (with_standing (record picture { objects = objects }) number standing).locs other ≡ Obj object
+    bound_to objects standing =
+        ap (λ (it : Option PicLoc). resolved_loc (option_map_or (λ (l : PicLoc). slice_set picture.locs number (record l { standing = standing })) it picture.locs) other) is_open ∙ stays standing
+
+    go : (of : Choice) → resolved_loc (after_access picture number of).locs other ≡ Obj object
+    go (Alias to) = bound_to picture.objects (standings.Obj to)
+    go (Fresh kind len) =
+        ap (λ (it : Option PicLoc). resolved_loc (with_standing (option_map_or (λ (l : PicLoc). with_fresh picture l.origin kind len) it picture) number (standings.Obj (length picture.objects))).locs other) is_open
+        ∙ bound_to (picture.objects ++ record { kind = kind; length = len; origin = origin } ∷ []) (standings.Obj (length picture.objects))
+    go Beyond = bound_to picture.objects standings.Beyond
+    go _ = is
 
 -- ---- the state
 
@@ -186,7 +221,7 @@ module _ (world : World) (state : State) (sound : IsState world state) (number :
     stage = stage_more state.stage sound.stage;
     cells = are_cells;
     made = made_more world state new more state.made sound.made;
-    chosen = chosen_kept state new (record { objects = front; made = made_kept state.made }) state.chosen (array_next world state.method state.stage) sound.chosen;
+    chosen = chosen_kept state new (record { objects = front; made = made_kept state.made; locs = locs_kept state.picture number origin choice is_open }) state.chosen (array_next world state.method state.stage) sound.chosen;
   }
 
   -- ---- what it stands for

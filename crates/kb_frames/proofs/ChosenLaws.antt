@@ -22,7 +22,11 @@ use Rattle.kb_frames.specs.declared.state.Stage.TheVariants.{Begins, Runs}
 use Rattle.kb_frames.specs.declared.state.SymObject.{SymObject}
 use Rattle.kb_frames.specs.declared.value.SymValue.{SymValue}
 use Rattle.kb_frames.specs.declared.value.SymValue.TheVariants.{Int, Null, Obj, Literal, New, Loc}
-use Rattle.kb_frames.specs.Arrays.{IsPlaceAmong, IsPlaceNext, array_next, array_on, index_next, index_on, length_made, length_of, length_seen}
+use Rattle.kb_frames.specs.Arrays.{IsPlaceAmong, IsPlaceNext, array_next, array_on, index_next, index_on, known_length, length_made, length_of, length_seen}
+use Rattle.kb_picture.specs.declared.picture.PicLoc.{PicLoc}
+use Rattle.kb_picture.specs.declared.picture.Standing.{Standing}
+use Rattle.kb_picture.specs.declared.picture.Standing.TheVariants as standings
+use Rattle.kb_frames.specs.Resolved.{resolved_loc, standing_value}
 use Rattle.kb_frames.specs.Heaps.{object_with, with_made_value}
 use Rattle.kb_frames.specs.Lent.{begun_stage}
 use Rattle.kb_frames.specs.Next.{instruction_next}
@@ -81,6 +85,8 @@ IsAsLong object other = (other.kind ≡ object.kind) × (length other.values ≡
 pub record KeepsObjects (old new : State) : Type 0 where
   pub objects : (number : ℕ) (object : PicObject) → slice_get old.picture.objects number ≡ Some object → slice_get new.picture.objects number ≡ Some object
   pub made : (number : ℕ) (object : SymObject) → slice_get old.made number ≡ Some object → (other : SymObject) × (slice_get new.made number ≡ Some other) × IsAsLong object other
+  -- and a location that is bound is bound to the same object
+  pub locs : (number object : ℕ) → resolved_loc old.picture.locs number ≡ Obj object → resolved_loc new.picture.locs number ≡ Obj object
 
 module _ (old new : State) (keeps : KeepsObjects old new) where
   -- an array has as many elements as it had
@@ -104,20 +110,43 @@ module _ (old new : State) (keeps : KeepsObjects old new) where
   length_kept (Literal number) count is = absurd cc
   length_kept (Loc number) count is = absurd cc
 
+  -- so has one that a value is known to be
+  known_kept : (value : SymValue) (count : ℕ) → known_length old value ≡ Some count → known_length new value ≡ Some count
+  known_kept (Obj number) count is = length_kept (Obj number) count is
+  known_kept (New number) count is = length_kept (New number) count is
+  known_kept (Int term) count is = absurd cc
+  known_kept Null count is = absurd cc
+  known_kept (Literal number) count is = absurd cc
+  known_kept (Loc number) count is = by_loc (slice_get old.picture.locs number) refl is
+    where
+      by_standing : (loc : PicLoc) → slice_get old.picture.locs number ≡ Some loc → (standing : Standing) → loc.standing ≡ standing → length_of old (standing_value number standing) ≡ Some count
+          → known_length new (Loc number) ≡ Some count
+      by_standing loc at (standings.Obj object) so e =
+          ap (length_of new)
+          (keeps.locs number object (ap (λ (it : Option PicLoc). option_map_or (λ (l : PicLoc). standing_value number l.standing) it (Loc number)) at ∙ ap (standing_value number) so))
+          ∙ length_kept (Obj object) count e
+      by_standing loc at standings.Open so e = absurd cc
+      by_standing loc at standings.Beyond so e = absurd cc
+
+      by_loc : (it : Option PicLoc) → slice_get old.picture.locs number ≡ it → length_of old (option_map_or (λ (l : PicLoc). standing_value number l.standing) it (Loc number)) ≡ Some count
+          → known_length new (Loc number) ≡ Some count
+      by_loc None at e = absurd cc
+      by_loc (Some loc) at e = by_standing loc at loc.standing refl e
+
   -- the place that was chosen is one of it still
-  pub chosen_kept : (chosen : Option ℕ) (array : Option SymValue) → IfSome chosen (IsPlaceAmong (option_and_then (length_of old) array))
-      → IfSome chosen (IsPlaceAmong (option_and_then (length_of new) array))
+  pub chosen_kept : (chosen : Option ℕ) (array : Option SymValue) → IfSome chosen (IsPlaceAmong (option_and_then (known_length old) array))
+      → IfSome chosen (IsPlaceAmong (option_and_then (known_length new) array))
   chosen_kept None array h = tt
   chosen_kept (Some place) None h = absurd h
-  chosen_kept (Some place) (Some value) h = go (length_of old value) refl h where
-    go : (count : Option ℕ) → length_of old value ≡ count → IsPlaceAmong count place → IsPlaceAmong (length_of new value) place
+  chosen_kept (Some place) (Some value) h = go (known_length old value) refl h where
+    go : (count : Option ℕ) → known_length old value ≡ count → IsPlaceAmong count place → IsPlaceAmong (known_length new value) place
     go None e inside = absurd inside
-    go (Some count) e inside = subst (λ (many : Option ℕ). IsPlaceAmong many place) (sym (length_kept value count e)) inside
+    go (Some count) e inside = subst (λ (many : Option ℕ). IsPlaceAmong many place) (sym (known_kept value count e)) inside
 
 -- a state that reads its arguments has no operands, and no place is chosen
 pub begins_chosen : (world : World) (state : State) (read : List SymValue) → state.stage ≡ Begins read → IfSome state.chosen (IsPlaceNext world state) → (P : ℕ → Type 0) → IfSome state.chosen P
 begins_chosen world state read begins sound P =
-    go state.chosen (subst (λ (stage : Stage). IfSome state.chosen (λ (place : ℕ). IsPlaceAmong (option_and_then (length_of state) (array_next world state.method stage)) place)) begins sound)
+    go state.chosen (subst (λ (stage : Stage). IfSome state.chosen (λ (place : ℕ). IsPlaceAmong (option_and_then (known_length state) (array_next world state.method stage)) place)) begins sound)
   where
     go : (chosen : Option ℕ) → IfSome chosen (λ (place : ℕ). ⊥) → IfSome chosen P
     go None h = tt
@@ -151,10 +180,11 @@ made_written made at_object slot value number object at = go (slice_get made at_
   ]
 
 -- the objects of the picture and those that the run has made are the same
-pub keeps_same : (old new : State) → new.picture.objects ≡ old.picture.objects → new.made ≡ old.made → KeepsObjects old new
-keeps_same old new objects made = record {
+pub keeps_same : (old new : State) → new.picture.objects ≡ old.picture.objects → new.picture.locs ≡ old.picture.locs → new.made ≡ old.made → KeepsObjects old new
+keeps_same old new objects locs made = record {
   objects = λ number object at. ap (λ (l : List PicObject). slice_get l number) objects ∙ at;
   made = λ number object at. (object, ap (λ (l : List SymObject). slice_get l number) made ∙ at, (refl, refl));
+  locs = λ number object is. ap (λ (l : List PicLoc). resolved_loc l number) locs ∙ is;
 }
 
 -- ---- the first frame

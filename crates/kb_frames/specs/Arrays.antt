@@ -16,6 +16,7 @@ use Rattle.kb_frames.specs.declared.state.Stage.{Stage}
 use Rattle.kb_frames.specs.declared.state.Stage.TheVariants.{Begins, Runs}
 use Rattle.kb_frames.specs.declared.state.SymObject.{SymObject}
 use Rattle.kb_frames.specs.Next.{instruction_next}
+use Rattle.kb_frames.specs.Resolved.{resolved}
 use Rattle.kb_frames.specs.State.{State}
 
 -- ---- operands
@@ -68,6 +69,10 @@ abbrev pub IsPlaceAmong : Option ℕ → ℕ → Type 0
 IsPlaceAmong None place = ⊥
 IsPlaceAmong (Some count) place = place < count
 
+-- how many elements the array has that a value is known to be
+abbrev pub known_length : State → SymValue → Option ℕ
+known_length state value = length_of state (resolved state.picture.locs value)
+
 -- the place is one of the array that the next instruction takes
 abbrev pub IsPlaceNext : World → State → ℕ → Type 0
-IsPlaceNext world state place = IsPlaceAmong (option_and_then (length_of state) (array_next world state.method state.stage)) place
+IsPlaceNext world state place = IsPlaceAmong (option_and_then (known_length state) (array_next world state.method state.stage)) place

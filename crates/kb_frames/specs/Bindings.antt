@@ -2,45 +2,24 @@
 -- cells by those of a new object. Frames, cells and made objects keep the location, whatever names it goes by: at an input it
 -- has the value of its place, open or not.
 use Rattle.std.specs.Prelude.{◌≡◌, ◌↔◌, ℕ, List, ◌++◌, Some, slice_get}
-use Rattle.std.specs.Option.{option_map_or}
 use Rattle.kb_heap.specs.declared.heap.Input.{Input}
 use Rattle.kb_classes.specs.World.{World}
 use Rattle.kb_semantics.specs.Config.{Setting, Config}
 use Rattle.kb_picture.specs.declared.choice.Choice.{Choice}
 use Rattle.kb_picture.specs.declared.picture.Origin.{Origin}
 use Rattle.kb_picture.specs.declared.picture.PicLoc.{PicLoc}
-use Rattle.kb_picture.specs.declared.picture.Standing.{Standing}
 use Rattle.kb_picture.specs.declared.picture.Standing.TheVariants as standings
 use Rattle.kb_picture.specs.Accesses.{IsOpenFrom}
 use Rattle.kb_picture.specs.Growing.{IsChoiceIn}
 use Rattle.kb_picture.specs.Growth.{after_access}
 use Rattle.kb_picture.specs.Shapes.{HasShape}
 use Rattle.kb_frames.specs.declared.value.SymValue.{SymValue}
-use Rattle.kb_frames.specs.declared.value.SymValue.TheVariants.{Int, Null, Obj, Literal, New, Loc}
+use Rattle.kb_frames.specs.declared.value.SymValue.TheVariants.{Loc}
 use Rattle.kb_frames.specs.FirstReads.{cells_chosen}
+pub use Rattle.kb_frames.specs.Resolved.{resolved, resolved_loc, standing_value}
 use Rattle.kb_frames.specs.StandsFor.{IsInstanceOf, StandsFor, reading_at, value_of_sym}
 use Rattle.kb_frames.specs.State.{State}
 use Rattle.kb_frames.specs.States.{IsState, IsSymValue}
-
--- ---- what a value is
-
--- a location as what it is known to be
-abbrev pub standing_value : ℕ → Standing → SymValue
-standing_value number (standings.Obj object) = Obj object
-standing_value number standings.Open = Loc number
-standing_value number standings.Beyond = Loc number
-
-abbrev pub resolved_loc : List PicLoc → ℕ → SymValue
-resolved_loc locs number = option_map_or (λ (loc : PicLoc). standing_value number loc.standing) (slice_get locs number) (Loc number)
-
--- a value: a location that is known to be an object of the picture is that object
-abbrev pub resolved : List PicLoc → SymValue → SymValue
-resolved locs (Loc number) = resolved_loc locs number
-resolved locs (Int term) = Int term
-resolved locs Null = Null
-resolved locs (Obj number) = Obj number
-resolved locs (Literal number) = Literal number
-resolved locs (New number) = New number
 
 -- ---- what is chosen
 

@@ -1,4 +1,5 @@
 pub mod State
+pub mod Resolved
 pub mod Arrays
 pub mod StandsFor
 pub mod Truths

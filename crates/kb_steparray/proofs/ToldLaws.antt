@@ -15,7 +15,7 @@ use Rattle.kb_terms.specs.declared.node.TermId.{TermId}
 use Rattle.kb_picture.specs.Endings.{Reading}
 use Rattle.kb_frames.specs.declared.value.SymValue.{SymValue}
 use Rattle.kb_frames.specs.declared.value.SymValue.TheVariants.{Int, Null, Obj, Literal, New, Loc}
-use Rattle.kb_frames.specs.Arrays.{IsPlaceAmong, IsPlaceNext, array_next, array_on, index_next, index_on, length_of}
+use Rattle.kb_frames.specs.Arrays.{IsPlaceAmong, IsPlaceNext, known_length, array_next, array_on, index_next, index_on, length_of}
 use Rattle.kb_frames.specs.Next.{instruction_next}
 use Rattle.kb_frames.specs.StandsFor.{IsIndexNext, reading_at, value_of_sym}
 use Rattle.kb_frames.specs.State.{State}
@@ -53,15 +53,9 @@ module _ (world : World) (bounds : Bounds) (at : Situation world bounds) (bounde
     array_is : option_map (known state) (array_next world state.method state.stage) ≡ Some array
     array_is = ap (λ (it : Option Instr). option_map (known state) (option_and_then (array_on at.frame.stack) it)) here ∙ array_here
 
-    -- an array that has places is known by its own name
-    place_among : (own : Option SymValue) → option_map (known state) own ≡ Some array → (place : ℕ) → IsPlaceAmong (option_and_then (length_of state) own) place → place < count
+    place_among : (own : Option SymValue) → option_map (known state) own ≡ Some array → (place : ℕ) → IsPlaceAmong (option_and_then (known_length state) own) place → place < count
     place_among None e place inside = absurd inside
-    place_among (Some (Obj n)) e place inside = subst (λ (it : Option ℕ). IsPlaceAmong it place) (ap (length_of state) (same_Some (Obj n) array e) ∙ long) inside
-    place_among (Some (New n)) e place inside = subst (λ (it : Option ℕ). IsPlaceAmong it place) (ap (length_of state) (same_Some (New n) array e) ∙ long) inside
-    place_among (Some (Int t)) e place inside = absurd inside
-    place_among (Some Null) e place inside = absurd inside
-    place_among (Some (Literal n)) e place inside = absurd inside
-    place_among (Some (Loc n)) e place inside = absurd inside
+    place_among (Some value) e place inside = subst (λ (it : Option ℕ). IsPlaceAmong it place) (ap (length_of state) (same_Some (known state value) array e) ∙ long) inside
 
     -- it is a place of the array, and the index is that place
     pub chosen_told : (place : ℕ) → state.chosen ≡ Some place → place_in_array (int_value r x) count ≡ Some place

@@ -141,7 +141,7 @@ module _ (world : World) (state : State) (sound : Sound world state) (frame : Sy
           seen = λ i of at. written_touched of (sound.cells.seen i of at);
         })
         (made_more world state wrote_state wrote_more state.made sound.made) sound.receiver
-        (chosen_kept state wrote_state (keeps_same state wrote_state refl refl) state.chosen (array_next world state.method state.stage) sound.chosen)
+        (chosen_kept state wrote_state (keeps_same state wrote_state refl refl refl) state.chosen (array_next world state.method state.stage) sound.chosen)
 
     wrote_behind : SoundBehind world state (wrote number slot value state)
     wrote_behind = record { sound = wrote_sound; more = wrote_more; stage = refl; method = refl; init = refl; picture = refl }
@@ -190,7 +190,7 @@ module _ (world : World) (state : State) (sound : Sound world state) (frame : Sy
           seen = sound.cells.seen;
         })
         objects_made sound.receiver
-        (chosen_kept state made_state (record { objects = λ i object at. at; made = made_written state.made number slot value }) state.chosen (array_next world state.method state.stage) sound.chosen)
+        (chosen_kept state made_state (record { objects = λ i object at. at; made = made_written state.made number slot value; locs = λ i object is. is }) state.chosen (array_next world state.method state.stage) sound.chosen)
 
     made_behind : SoundBehind world state (wrote_made number slot value state)
     made_behind = record { sound = made_sound; more = made_state_more; stage = refl; method = refl; init = refl; picture = refl }

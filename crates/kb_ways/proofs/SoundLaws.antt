@@ -261,7 +261,7 @@ module _ (world : World) (state : State) (nodes : List Node) (when : List (TermI
     receiver = sound.receiver;
     parameters = sound.parameters;
     keys = sound.keys;
-    chosen = chosen_kept state grown_state (keeps_same state grown_state refl refl) state.chosen (array_next world state.method state.stage) sound.chosen;
+    chosen = chosen_kept state grown_state (keeps_same state grown_state refl refl refl) state.chosen (array_next world state.method state.stage) sound.chosen;
   }
 
 pub nodes_sound : (world : World) (state : State) (nodes : List Node) → GoesOn state.nodes nodes → Sound world state → Sound world (with_nodes state nodes)
@@ -410,7 +410,7 @@ module _ (world : World) (state : State) (object : TermId → SymObject) (sound 
     receiver = sound.receiver;
     parameters = sound.parameters;
     keys = sound.keys;
-    chosen = chosen_kept state made_state (record { objects = λ number it at. at; made = made_pushed state.made (object zero_made.1) }) state.chosen
+    chosen = chosen_kept state made_state (record { objects = λ number it at. at; made = made_pushed state.made (object zero_made.1); locs = λ number it is. is }) state.chosen
         (array_next world state.method state.stage) sound.chosen;
   }
 
