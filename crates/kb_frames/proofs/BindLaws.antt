@@ -132,11 +132,11 @@ locs_kept picture number origin choice is_open other object is = go choice
         ap (λ (it : Option PicLoc). resolved_loc (option_map_or (λ (l : PicLoc). slice_set picture.locs number (record l { standing = standing })) it picture.locs) other) is_open ∙ stays standing
 
     go : (of : Choice) → resolved_loc (after_access picture number of).locs other ≡ Obj object
-    go (Alias to) = bound_to picture.objects (standings.Obj to)
-    go (Fresh kind len) =
+    go (choices.Alias to) = bound_to picture.objects (standings.Obj to)
+    go (choices.Fresh kind len) =
         ap (λ (it : Option PicLoc). resolved_loc (with_standing (option_map_or (λ (l : PicLoc). with_fresh picture l.origin kind len) it picture) number (standings.Obj (length picture.objects))).locs other) is_open
         ∙ bound_to (picture.objects ++ record { kind = kind; length = len; origin = origin } ∷ []) (standings.Obj (length picture.objects))
-    go Beyond = bound_to picture.objects standings.Beyond
+    go choices.Beyond = bound_to picture.objects standings.Beyond
     go _ = is
 
 -- ---- the state
