@@ -1,0 +1,5 @@
+pub mod Families
+pub mod Operations
+pub mod Places
+pub mod Sites
+pub mod Tables
