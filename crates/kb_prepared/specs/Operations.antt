@@ -218,7 +218,7 @@ abbrev pub IsLeft : Standing → Instr → Type 0
 IsLeft s (instrs.Table low default targets) = Unit {0}
 IsLeft s (instrs.Lookup default keys) = Unit {0}
 IsLeft s (instrs.NewRefs entry) = IsSome (type_at s entry)
-IsLeft s (instrs.New entry) = (option_map is_class (type_at s entry) ≡ Some true) × (class_at s entry ≡ None)
+IsLeft s (instrs.New entry) = (option_map_or is_class (type_at s entry) false ≡ true) × (class_at s entry ≡ None)
 IsLeft s (instrs.Cast entry) = IsOtherType s entry
 IsLeft s (instrs.InstanceOf entry) = IsOtherType s entry
 IsLeft s (instrs.Virtual entry) = (names_method s entry ≡ true) × (selected_at s entry ≡ None)

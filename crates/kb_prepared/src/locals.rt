@@ -1,5 +1,5 @@
 //! Operations on locals, which lie inside the frame.
-ghost use Rattle.std.specs.Prelude.{ℕ};
+ghost use Rattle.std.specs.Prelude.{◌≡◌, ℕ, nat_le};
 ghost use Rattle.kb_code.specs.declared.instruction.Instr.TheVariants as instrs;
 ghost use Rattle.kb_prepared.specs.Families.{IsLocal};
 ghost use Rattle.kb_prepared.specs.Operations.{IsOperationOf};
@@ -28,7 +28,7 @@ pub(crate) fn on_local(site: &Site<'_>, instr: &Instr) -> Op
 fn load_int(site: &Site<'_>, local: u16) -> Op
     ensures { (at : ℕ) → IsOperationOf (standing_of site.now) at (instrs.LoadInt local) result }
 {
-    if local >= site.code.max_locals {
+    if is_outside(site, local) {
         return Op::Bad;
     }
     Op::LoadInt(local)
@@ -38,7 +38,7 @@ fn load_int(site: &Site<'_>, local: u16) -> Op
 fn load_reference(site: &Site<'_>, local: u16) -> Op
     ensures { (at : ℕ) → IsOperationOf (standing_of site.now) at (instrs.LoadRef local) result }
 {
-    if local >= site.code.max_locals {
+    if is_outside(site, local) {
         return Op::Bad;
     }
     Op::LoadRef(local)
@@ -48,7 +48,7 @@ fn load_reference(site: &Site<'_>, local: u16) -> Op
 fn store_int(site: &Site<'_>, local: u16) -> Op
     ensures { (at : ℕ) → IsOperationOf (standing_of site.now) at (instrs.StoreInt local) result }
 {
-    if local >= site.code.max_locals {
+    if is_outside(site, local) {
         return Op::Bad;
     }
     Op::StoreInt(local)
@@ -58,7 +58,7 @@ fn store_int(site: &Site<'_>, local: u16) -> Op
 fn store_reference(site: &Site<'_>, local: u16) -> Op
     ensures { (at : ℕ) → IsOperationOf (standing_of site.now) at (instrs.StoreRef local) result }
 {
-    if local >= site.code.max_locals {
+    if is_outside(site, local) {
         return Op::Bad;
     }
     Op::StoreRef(local)
@@ -68,8 +68,15 @@ fn store_reference(site: &Site<'_>, local: u16) -> Op
 fn increase(site: &Site<'_>, local: u16, by: i32) -> Op
     ensures { (at : ℕ) → IsOperationOf (standing_of site.now) at (instrs.Inc local by) result }
 {
-    if local >= site.code.max_locals {
+    if is_outside(site, local) {
         return Op::Bad;
     }
     Op::Increase(local, by)
+}
+
+// Whether the local lies outside the frame.
+fn is_outside(site: &Site<'_>, local: u16) -> bool
+    ensures { result ≡ nat_le site.now.code.now.max_locals local }
+{
+    local >= site.code.max_locals
 }

@@ -1,14 +1,15 @@
 //! A method whose code is prepared, and what its instructions name.
-ghost use Rattle.std.specs.Prelude.{◌≡◌, ◌<◌, length, nat_lt};
+ghost use Rattle.std.specs.Prelude.{◌≡◌, ◌<◌, length, nat_lt, option_map};
 ghost use Rattle.std.specs.Option.{option_copied};
+ghost use Rattle.kb_class.specs.References.{sought_of};
 ghost use Rattle.kb_classes.specs.World.{int_entry_of, literal_entry_of, number_in};
-ghost use Rattle.kb_resolution.specs.Lookup.{resolved_field};
+ghost use Rattle.kb_resolution.specs.Lookup.{resolved_field, sought_at};
 ghost use Rattle.kb_resolution.specs.Tables.{IsResolved};
 ghost use Rattle.kb_prepared.specs.Operations.{both, class_at, is_method, names_method, selected_at, special_at, static_at, type_at};
 ghost use Rattle.kb_prepared.specs.Sites.{IsSite, standing_of};
 
 use crate::op::Selected;
-use kb_class::{MemberKind, MethodCode, MethodId, MethodInfo};
+use kb_class::{MemberKind, MethodCode, MethodId, MethodInfo, Reference};
 use kb_link::{FieldSlot, Linked};
 use kb_names::{ExactType, Row};
 use kb_resolution::{Resolved, resolved_at, slot_in};
@@ -90,18 +91,22 @@ pub(crate) fn field_at<'l>(site: &Site<'l>, entry: u16) -> Option<&'l FieldSlot>
     slot_in(site.linked, told.declaring, told.slot)
 }
 
+// The field or method that an entry names.
+fn reference_at<'l>(site: &Site<'l>, entry: u16) -> Option<Reference<'l>>
+    ensures { option_map sought_of result ≡ sought_at site.now.linked.now site.now.method.now.class.0 entry }
+{
+    if !has_class(site) {
+        return None;
+    }
+    let class = site.linked.class_of(site.method.class);
+    class.reference_entry(entry)
+}
+
 /// Whether an entry names a method.
 pub(crate) fn names_method(site: &Site<'_>, entry: u16) -> bool
     ensures { result ≡ names_method (standing_of site.now) entry }
 {
-    if !has_class(site) {
-        return false;
-    }
-    match site
-        .linked
-        .class_of(site.method.class)
-        .reference_entry(entry)
-    {
+    match reference_at(site, entry) {
         Some(found) => is_method(found.kind),
         None => false,
     }
