@@ -1,2 +1,3 @@
+pub mod CalleeLaws
 pub mod PlaceLaws
 pub mod TableLaws

@@ -1,3 +1,4 @@
+pub mod Callees
 pub mod Families
 pub mod Operations
 pub mod Places

@@ -19,7 +19,7 @@ mod site;
 mod tables;
 
 pub use kb_names::NoMemory;
-pub use laws::code_has_places;
+pub use laws::{callees_have_types, code_has_places};
 pub use op::{Jump, Op, Selected, Slot};
 pub use prepared::{Body, Kind, MethodRow, Prepared};
 pub use preparing::prepare;
