@@ -1,3 +1,4 @@
 pub mod CalleeLaws
+pub mod MarkLaws
 pub mod PlaceLaws
 pub mod TableLaws

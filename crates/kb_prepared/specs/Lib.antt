@@ -1,3 +1,4 @@
+pub mod Above
 pub mod Callees
 pub mod Families
 pub mod Operations

@@ -4,6 +4,7 @@
 //! `specs/Operations.antt` says of which instruction an operation stands, `specs/Tables.antt` how the lists are laid out.
 #![tactic(auto)]
 
+mod above;
 mod branches;
 mod by_operand;
 mod calls;
@@ -18,6 +19,7 @@ mod returns;
 mod site;
 mod tables;
 
+pub use above::{ClassMarks, marks_of};
 pub use kb_names::NoMemory;
 pub use laws::{callees_have_types, code_has_places};
 pub use op::{Jump, Op, Selected, Slot};
