@@ -1,9 +1,9 @@
 #!/usr/bin/env python3
 """Times the machine and `java -Xint` on the same methods: a loop over an array, a walk along a linked list, a method that calls
-itself, virtual calls in a loop, and virtual calls of a method that the class of the receiver inherits from one class above it
-(near) and from 60 classes above (far).
+itself, virtual calls in a loop, virtual calls of a method that the class of the receiver inherits from one class above it
+(near) and from 60 classes above (far), a search in a binary tree, and a sort of an array by compares and swaps.
 
-The methods are those of bench/machine/Walks.java and Calls.java; the classes that inherit are written here. Where a call takes
+The methods are those of bench/machine/Walks.java, Calls.java and Orders.java; the classes that inherit are written here. Where a call takes
 no time for the classes between, near and far are alike. The machine is that of the program machine_rows, which runs a row of
 its table as often as `times=` says, in one process; the time of one run is taken off, since it is that of starting the
 program and reading the class files. How many instructions a run has is found by the bound on steps: a run with one less ends as past
@@ -33,6 +33,7 @@ LINKS = 60
 CLASSES = {
     "Walks": ["Walks", "Node", "Shape", "Square", "Disc"],
     "Calls": ["Calls", *(f"Link{number}" for number in range(LINKS + 1))],
+    "Orders": ["Orders", "Tree"],
 }
 MOST_STEPS = 100_000
 BOUNDS = "alloc=1000 loops=1000 depth=256"
@@ -44,6 +45,8 @@ METHODS = {
     "virtual": ("Walks", 4),
     "near": ("Calls", 8),
     "far": ("Calls", 8),
+    "tree": ("Orders", 1),
+    "sort": ("Orders", 3),
 }
 
 
