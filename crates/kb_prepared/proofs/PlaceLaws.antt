@@ -1,10 +1,10 @@
 -- Places of instructions and their offsets.
-use Rattle.std.proofs.Common.{◌≡◌, ◌≢◌, ℕ, zero, suc, ◌+◌, ◌<◌, ◌≤◌, Bool, true, false, ◌==◌, List, [], ◌∷◌, length, drop, Option, Some, None, IsTrue, slice_get, refl, sym, ap, ◌∙◌, arith}
+use Rattle.std.proofs.Common.{◌≡◌, ◌≢◌, ℕ, zero, suc, ◌+◌, ◌<◌, ◌≤◌, Bool, true, false, ◌==◌, ◌||◌, List, [], ◌∷◌, length, drop, Option, Some, None, IsTrue, refl, sym, ap, subst, ◌∙◌, arith}
 use Rattle.std.proofs.lemmas.Bool.{eqb-true, eqb-false}
-use Rattle.std.specs.List.{AllByRecursion}
+use Rattle.std.proofs.lemmas.Option.{none-some, same_Some}
 use Rattle.std.specs.Option.{option_map}
 use Rattle.kb_code.specs.declared.instruction.Instr.{Instr}
-use Rattle.kb_code.specs.Listing.{Begins, IsLaidOut, IsRising}
+use Rattle.kb_code.specs.Listing.{Begins, IsLaidOut, IsRising, begins}
 use Rattle.kb_classes.proofs.Filling.{rises_within}
 use Rattle.kb_classes.specs.Placing.{place_of_offset}
 use Rattle.kb_prepared.specs.Places.{CodeHasPlaces, PlacesAreOffsets, offset_at}
@@ -12,9 +12,9 @@ use Rattle.kb_prepared.specs.Places.{CodeHasPlaces, PlacesAreOffsets, offset_at}
 -- ---- the place of an offset
 
 suc_inside : (found : Option ℕ) (count place : ℕ) → ((p : ℕ) → found ≡ Some p → p < count) → option_map suc found ≡ Some place → place < suc count
-suc_inside None count place inside at = absurd cc
+suc_inside None count place inside at = absurd (none-some place at)
 suc_inside (Some p) count place inside at =
-    let same : suc p ≡ place = cc in
+    let same : suc p ≡ place = same_Some (suc p) place at in
     let below : p < count = inside p refl in
     omega (arith, same, below)
 
@@ -24,23 +24,30 @@ place_inside [] at place found = absurd cc
 place_inside (item ∷ items) at place found = go (place_inside items at) (item.0 == at) refl where
   go : ((p : ℕ) → place_of_offset items at ≡ Some p → p < length items) → (same : Bool) → (item.0 == at) ≡ same → place < length (item ∷ items)
   go later true e =
-      let first : Some 0 ≡ Some place = sym (rw e refl) ∙ found in
-      let zero_is : 0 ≡ place = cc in
+      let is : place_of_offset (item ∷ items) at ≡ Some 0 = rw e refl in
+      let zero_is : 0 ≡ place = same_Some 0 place (sym is ∙ found) in
       omega (arith, zero_is)
-  go later false e = suc_inside (place_of_offset items at) (length items) place later (sym (rw e refl) ∙ found)
+  go later false e =
+      let is : place_of_offset (item ∷ items) at ≡ option_map suc (place_of_offset items at) = rw e refl in
+      suc_inside (place_of_offset items at) (length items) place later (sym is ∙ found)
 
 some_suc : (found : Option ℕ) → option_map suc found ≡ None → found ≡ None
 some_suc None none = refl
-some_suc (Some p) none = absurd cc
+some_suc (Some p) none = absurd (none-some (suc p) (sym none))
 
 -- where an instruction begins there is one
 pub begins_placed : (items : List (ℕ × Instr)) (at : ℕ) → Begins items at → place_of_offset items at ≡ None → ⊥
-begins_placed [] at begins none = absurd begins
-begins_placed (item ∷ items) at begins none = go (begins_placed items at) (item.0 == at) refl begins none where
+begins_placed [] at start none = absurd start
+begins_placed (item ∷ items) at start none = go (begins_placed items at) (item.0 == at) refl start none where
   go : (Begins items at → place_of_offset items at ≡ None → ⊥) → (same : Bool) → (item.0 == at) ≡ same → Begins (item ∷ items) at
       → place_of_offset (item ∷ items) at ≡ None → ⊥
-  go later true e begins none = let no : Some 0 ≡ None = sym (rw e refl) ∙ none in absurd cc
-  go later false e begins none = later (rw (← e) begins) (some_suc (place_of_offset items at) (sym (rw e refl) ∙ none))
+  go later true e start none =
+      let is : place_of_offset (item ∷ items) at ≡ Some 0 = rw e refl in
+      none-some 0 (sym none ∙ is)
+  go later false e start none =
+      let is : place_of_offset (item ∷ items) at ≡ option_map suc (place_of_offset items at) = rw e refl in
+      let further : Begins items at = subst (λ (b : Bool). IsTrue (b || begins items at)) e start in
+      later further (some_suc (place_of_offset items at) (sym is ∙ none))
 
 -- ---- rising offsets
 
