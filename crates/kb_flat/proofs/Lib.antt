@@ -1,0 +1,4 @@
+pub mod EffectLaws
+pub mod FrameLaws
+pub mod Pieces
+pub mod StackLaws
