@@ -6,3 +6,4 @@ pub mod SpacedLaws
 pub mod FurtherLaws
 pub mod TotalsLaws
 pub mod OneLine
+pub mod ReportLines

@@ -5,3 +5,4 @@ pub mod Picture
 pub mod Further
 pub mod Totals
 pub mod Lines
+pub mod Reports

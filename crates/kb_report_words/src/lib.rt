@@ -17,7 +17,7 @@ mod totals;
 
 pub use further::FurtherLine;
 pub use head::{HeadLine, Settings};
-pub use law::each_line_says_one_thing;
+pub use law::{each_line_says_one_thing, reports_have_lines};
 pub use leaf::LeafLine;
 pub use line::{Line, read_line};
 pub use picture::{NamedObject, PictureLine};
