@@ -2,7 +2,7 @@
 use Rattle.std.proofs.Common.{◌≡◌, ◌≢◌, ℕ, zero, suc, ◌+◌, ◌-◌, ◌*◌, ◌/◌, ◌%◌, ◌<◌, ◌≤◌, ◌^◌, Bool, true, false, if◌then◌else◌, Option, None, Some, List, [], ◌∷◌, ◌++◌, length, refl, sym, ◌∙◌, ap, append_assoc, append-nil, arith, subst, get_or}
 use Rattle.std.specs.Prelude.{nat_le, ◌&&◌, option_and_then}
 use Rattle.std.specs.Fmt.{decimal}
-use Rattle.std.proofs.lemmas.Bool.{le-leb, leb-true}
+use Rattle.std.proofs.lemmas.Bool.{leb-true}
 use Rattle.std.proofs.lemmas.Fmt.{decimal_by_steps, decimal_step, decimal_digit, decimal_injective, decimal_nonempty, first_decimal}
 use Rattle.kb_grammar.specs.Lines.{Lacks, IsRead}
 use Rattle.kb_grammar.specs.Numbers.{with_digit, with_digits}
@@ -10,7 +10,7 @@ use Rattle.kb_grammar.proofs.NumberLaws.{take_digit}
 use Rattle.kb_grammar.proofs.WordLaws.{same_cut, same_behind, not_lacking}
 use Rattle.kb_heap_words.proofs.Lacking.{count_lacks, space}
 use Rattle.kb_report_text.specs.Ranges.{IsCount}
-use Rattle.kb_report_words.specs.Counts.{SpellsCount, SpellsCountBehind}
+use Rattle.kb_report_words.specs.Counts.{SpellsCount}
 
 -- the greatest count
 abbrev limit : ℕ

@@ -7,14 +7,14 @@ use Rattle.kb_grammar.specs.Lines.{Lacks, IsTail}
 use Rattle.kb_grammar.proofs.WordLaws.{same_behind, same_first}
 use Rattle.kb_heap.specs.declared.heap.Object.{Object}
 use Rattle.kb_heap.specs.declared.heap.Value.{Value}
-use Rattle.kb_heap_words.specs.Words.{exact_text, IsExact, SpellsExact}
+use Rattle.kb_heap_words.specs.Words.{exact_text, SpellsExact}
 use Rattle.kb_heap_words.proofs.Lacking.{space}
 use Rattle.kb_heap_words.proofs.WordLaws.{exact_lacks}
-use Rattle.kb_log_text.specs.Lines.{IsChain, learn_line, SpellsChain}
+use Rattle.kb_log_text.specs.Lines.{learn_line, SpellsChain}
 use Rattle.kb_log_text.proofs.LogLaws.{same_chain}
 use Rattle.kb_names.specs.declared.types.ExactType.{ExactType}
 use Rattle.kb_path_words.specs.Lines.{spaced}
-use Rattle.kb_path_words.specs.Ranges.{OutFits, ValueFits}
+use Rattle.kb_path_words.specs.Ranges.{OutFits}
 use Rattle.kb_path_words.specs.Spelled.{SpellsOut, SpellsValue}
 use Rattle.kb_path_words.specs.Words.{out_text, value_text}
 use Rattle.kb_path_words.proofs.ReadBack.{same_out}

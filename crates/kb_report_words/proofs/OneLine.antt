@@ -1,5 +1,5 @@
 -- One line says one thing.
-use Rattle.std.proofs.Common.{◌≡◌, ◌≢◌, ℕ, Bool, true, false, List, [], ◌∷◌, ◌++◌, Option, None, Some, refl, sym, ap, ◌∙◌, arith, cond, if◌then◌else◌, ◌==◌}
+use Rattle.std.proofs.Common.{◌≡◌, ◌≢◌, ℕ, Bool, true, false, List, ◌∷◌, ◌++◌, Option, None, Some, refl, sym, ap, ◌∙◌, arith, if◌then◌else◌, ◌==◌}
 use Rattle.std.specs.Prelude.{codes, slice_index}
 use Rattle.std.specs.Fmt.{decimal}
 use Rattle.kb_grammar.specs.Lines.{IsRead}
@@ -22,10 +22,10 @@ use Rattle.kb_report_text.specs.Blocks.{arg_line, in_line, let_line, new_line, p
 use Rattle.kb_report_text.specs.Ranges.{EndingFits, IsCount}
 use Rattle.kb_report_text.specs.Report.{settings_line, target_line, title_line}
 use Rattle.kb_report_words.specs.Counts.{SpellsCountBehind}
-use Rattle.kb_report_words.specs.Further.{further_text, IsFurther, SpellsFurther}
+use Rattle.kb_report_words.specs.Further.{further_text, SpellsFurther}
 use Rattle.kb_report_words.specs.Head.{head_text, IsHead, SpellsHead, SpellsSettings, SpellsTargetLine}
-use Rattle.kb_report_words.specs.Lines.{term_line_text, IsTermLine, SpellsTermLine, SpellsLet, SpellsWhen, leaf_text, IsLeafLine, SpellsLeaf, SpellsPathLine, line_text, IsLine, SpellsLine, IsFrame, SpellsFrame}
-use Rattle.kb_report_words.specs.Picture.{IsPictureLine, picture_text, SpellsPicture}
+use Rattle.kb_report_words.specs.Lines.{term_line_text, IsTermLine, SpellsTermLine, SpellsLet, SpellsWhen, leaf_text, IsLeafLine, SpellsLeaf, SpellsPathLine, line_text, IsLine, SpellsLine, SpellsFrame}
+use Rattle.kb_report_words.specs.Picture.{picture_text, SpellsPicture}
 use Rattle.kb_report_words.specs.Totals.{totals_text, SpellsTotals}
 use Rattle.kb_report_words.specs.declared.further.FurtherLine.{FurtherLine}
 use Rattle.kb_report_words.specs.declared.further.FurtherLine.TheVariants.{Set, New, Arg, In, Learn}

@@ -1,15 +1,15 @@
 -- The lines of a picture and their parts.
-use Rattle.std.proofs.Common.{◌≡◌, ℕ, ◌<◌, ◌^◌, List, [], ◌∷◌, ◌++◌, Option, None, Some, refl, sym, ap, ◌∙◌, arith, subst}
+use Rattle.std.proofs.Common.{◌≡◌, ℕ, ◌<◌, ◌^◌, List, [], ◌∷◌, ◌++◌, refl, sym, ap, ◌∙◌, arith}
 use Rattle.std.specs.Prelude.{codes, slice_index}
 use Rattle.std.specs.Fmt.{decimal}
 use Rattle.kb_grammar.specs.Lines.{Lacks, IsTail}
 use Rattle.kb_grammar.proofs.NumberLaws.{same_number}
-use Rattle.kb_grammar.proofs.WordLaws.{same_behind, same_cut, same_first, not_lacking}
-use Rattle.kb_heap_words.specs.Words.{exact_text, IsExact, SpellsExact}
+use Rattle.kb_grammar.proofs.WordLaws.{same_behind, same_first, not_lacking}
+use Rattle.kb_heap_words.specs.Words.{exact_text, SpellsExact}
 use Rattle.kb_heap_words.proofs.Lacking.{space}
 use Rattle.kb_heap_words.proofs.WordLaws.{exact_lacks, same_exact}
 use Rattle.kb_names.specs.declared.types.ExactType.{ExactType}
-use Rattle.kb_path_words.specs.Ranges.{IsSmall, IsSeenInRange, IsStandingInRange, LengthFits}
+use Rattle.kb_path_words.specs.Ranges.{LengthFits}
 use Rattle.kb_path_words.specs.Spelled.{SpellsSeen, SpellsStanding}
 use Rattle.kb_path_words.specs.Words.{length_text, seen_text, standing_text}
 use Rattle.kb_path_words.proofs.ReadBack.{same_seen, same_standing}

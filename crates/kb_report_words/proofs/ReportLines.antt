@@ -1,5 +1,5 @@
 -- The text of a report is that of its lines, and each of them is a line.
-use Rattle.std.proofs.Common.{◌≡◌, ℕ, ◌+◌, ◌<◌, ◌^◌, Bool, true, false, List, [], ◌∷◌, ◌++◌, length, map, Option, None, Some, refl, sym, ap, ap₂, ◌∙◌, arith, append_assoc}
+use Rattle.std.proofs.Common.{◌≡◌, ℕ, ◌+◌, ◌<◌, ◌^◌, Bool, List, [], ◌∷◌, ◌++◌, length, map, Option, None, Some, refl, sym, ap, ap₂, ◌∙◌, arith}
 use Rattle.std.specs.Prelude.{codes}
 use Rattle.std.specs.Fmt.{decimal}
 use Rattle.std.specs.List.{AllByRecursion, flat_map}
@@ -16,8 +16,8 @@ use Rattle.kb_heap.specs.declared.heap.Object.{Object}
 use Rattle.kb_heap.specs.declared.heap.Value.{Value}
 use Rattle.kb_heap_words.specs.Words.{exact_text, IsExact}
 use Rattle.kb_heap_words.proofs.Lacking.{space}
-use Rattle.kb_log_text.specs.Lines.{IsChain, learn_line, learn_lines}
-use Rattle.kb_path_words.specs.Lines.{ending_line, leaf_line, numbered_lines}
+use Rattle.kb_log_text.specs.Lines.{IsChain, learn_line}
+use Rattle.kb_path_words.specs.Lines.{leaf_line, numbered_lines}
 use Rattle.kb_path_words.specs.Ranges.{IsTermInRange, ValueFits}
 use Rattle.kb_path_words.specs.Spelled.{IsEnding}
 use Rattle.kb_path_words.specs.Words.{length_text, out_text, seen_text}
@@ -37,16 +37,16 @@ use Rattle.kb_picture.specs.declared.picture.Picture.{Picture}
 use Rattle.kb_picture.specs.declared.picture.Seen.{Seen}
 use Rattle.kb_report_laws.proofs.WordLaws.{field_lacks}
 use Rattle.kb_report_text.specs.Blocks.{see_line, loc_line, obj_line, picture_lines, let_line, when_line, set_line, new_line, arg_line, in_line, input_lines, further_lines, leaf_lines, path_line, path_lines}
-use Rattle.kb_report_text.specs.Ranges.{IsCount, OriginFits, SlotFits, ObjectFits, IsLocInRange, ConditionFits, WriteFits, MadeFits, InputFits, InputObjectFits, EndingFits, EndedFits, LeafFits, PathFits, ReportFits}
-use Rattle.kb_report_text.specs.Report.{count_of, head_lines, kinds_text, report_lines, same_kind, kind_of, settings_line, target_line, title_line, total_line}
+use Rattle.kb_report_text.specs.Ranges.{IsCount, OriginFits, SlotFits, ObjectFits, IsLocInRange, ConditionFits, WriteFits, MadeFits, InputFits, InputObjectFits, EndingFits, LeafFits, PathFits}
+use Rattle.kb_report_text.specs.Report.{count_of, head_lines, kinds_text, report_lines, same_kind, kind_of, total_line}
 use Rattle.kb_report_text.specs.Slots.{field_of, field_text, slot_text}
 use Rattle.kb_report_text.specs.declared.kinds.LeafKind.{LeafKind}
 use Rattle.kb_report_text.specs.declared.kinds.LeafKind.TheVariants as kinds
 use Rattle.kb_report_text.specs.declared.report.Report.{Report}
-use Rattle.kb_report_words.specs.Further.{further_text, IsFurther}
+use Rattle.kb_report_words.specs.Further.{further_text}
 use Rattle.kb_report_words.specs.Lines.{leaf_text, line_text, IsLine}
-use Rattle.kb_report_words.specs.Picture.{picture_text, IsPictureLine}
-use Rattle.kb_report_words.specs.Reports.{AreNamed, IsNamedInput, IsNamedEnding, IsNamedEnded, IsNamedLeaf, IsNamedPath, HasLines, name_of, numbered, see_of, loc_of, obj_of, picture_of, let_of, when_of, set_of, new_of, arg_of, in_of, learn_of, input_of, first_of, further_of, path_of, totals_of, head_of, lines_of}
+use Rattle.kb_report_words.specs.Picture.{picture_text}
+use Rattle.kb_report_words.specs.Reports.{AreNamed, IsNamedInput, IsNamedEnding, IsNamedLeaf, IsNamedPath, HasLines, name_of, numbered, see_of, loc_of, obj_of, picture_of, let_of, when_of, set_of, new_of, arg_of, in_of, learn_of, input_of, first_of, further_of, path_of, totals_of, head_of, lines_of}
 use Rattle.kb_report_words.specs.Slots.{IsNamed, named_text}
 use Rattle.kb_report_words.specs.Totals.{AreTotals, totals_text}
 use Rattle.kb_report_words.specs.declared.line.Line.{Line}

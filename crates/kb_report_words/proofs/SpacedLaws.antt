@@ -1,18 +1,16 @@
 -- Values in one text, each behind a space.
-use Rattle.std.proofs.Common.{◌≡◌, ℕ, List, [], ◌∷◌, ◌++◌, sym, ◌∙◌, ap, refl, arith}
+use Rattle.std.proofs.Common.{◌≡◌, ℕ, List, [], ◌∷◌, ◌++◌, sym, ◌∙◌, ap, refl}
 use Rattle.std.specs.List.{AllByRecursion}
 use Rattle.kb_grammar.specs.Lines.{Lacks, IsTail}
 use Rattle.kb_grammar.proofs.WordLaws.{same_behind, same_first}
 use Rattle.kb_grammar.proofs.ListLaws.{AreApart, IsReadSoFar, no_item}
 use Rattle.kb_grammar.proofs.ListLaws.{one_more as item_more}
-use Rattle.kb_heap.specs.declared.heap.Value.{Value}
 use Rattle.kb_heap_words.proofs.Lacking.{space}
 use Rattle.kb_path_words.proofs.ReadBack.{same_out, same_value}
 use Rattle.kb_path_words.proofs.WordLaws.{out_lacks, value_lacks}
 use Rattle.kb_path_words.specs.Lines.{spaced}
 use Rattle.kb_path_words.specs.Ranges.{OutFits, ValueFits}
 use Rattle.kb_path_words.specs.Words.{out_text, value_text}
-use Rattle.kb_picture.specs.declared.path.Out.{Out}
 
 -- words of values: none has a space, and each is of one value
 pub record AreWords {A : Type 0} (Is : A → Type 0) (word : A → List ℕ) : Type 0 where

@@ -1,7 +1,6 @@
 -- The lines behind the first one of a leaf, one by one: what a run wrote and made, the input that a path carries, and its log.
 use Rattle.std.specs.Prelude.{◌≡◌, ℕ, List, ◌++◌, codes}
 use Rattle.std.specs.List.{AllByRecursion}
-use Rattle.kb_chain.specs.declared.log.Chain.{Chain}
 use Rattle.kb_heap.specs.declared.heap.Object.{Object}
 use Rattle.kb_heap.specs.declared.heap.Value.{Value}
 use Rattle.kb_heap_words.specs.Words.{exact_text, IsExact}

@@ -7,7 +7,7 @@ use Rattle.kb_classes.specs.World.{World}
 use Rattle.kb_heap.specs.declared.heap.Input.{Input}
 use Rattle.kb_heap.specs.declared.heap.Object.{Object}
 use Rattle.kb_heap.specs.declared.heap.Value.{Value}
-use Rattle.kb_heap_words.specs.Words.{IsExact, IsPlace}
+use Rattle.kb_heap_words.specs.Words.{IsExact}
 use Rattle.kb_names.specs.Targets.{IsTarget}
 use Rattle.kb_picture.specs.declared.path.Ended.{Ended}
 use Rattle.kb_picture.specs.declared.path.Leaf.{Leaf}
