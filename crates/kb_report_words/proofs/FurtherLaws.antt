@@ -1,9 +1,9 @@
 -- The lines behind the first one of a leaf and their parts.
-use Rattle.std.proofs.Common.{◌≡◌, ◌≢◌, ℕ, ◌<◌, ◌^◌, List, [], ◌∷◌, ◌++◌, refl, sym, ap, ◌∙◌, arith}
+use Rattle.std.proofs.Common.{◌≡◌, ◌≢◌, ℕ, Option, None, Some, ◌<◌, ◌^◌, List, [], ◌∷◌, ◌++◌, refl, sym, ap, ◌∙◌, arith}
 use Rattle.std.specs.Prelude.{codes, slice_index}
 use Rattle.std.specs.Fmt.{decimal}
 use Rattle.kb_chain.specs.declared.log.Chain.{Chain}
-use Rattle.kb_grammar.specs.Lines.{Lacks, IsTail}
+use Rattle.kb_grammar.specs.Lines.{IsRead, IsTail, Lacks}
 use Rattle.kb_grammar.proofs.WordLaws.{same_behind, same_first}
 use Rattle.kb_heap.specs.declared.heap.Object.{Object}
 use Rattle.kb_heap.specs.declared.heap.Value.{Value}
@@ -114,17 +114,10 @@ good_in line text number object is e spells = ((is, spells.0), e ∙ ap (λ (t :
 
 -- ---- arg lines
 
-pub no_arg : (line : List ℕ) → ((rest : List ℕ) → line ≡ codes "arg " ++ rest → ⊥) → (value : Value) → SpellsArg value line → ⊥
+pub arg_read : (line word : List ℕ) (read : Option Value) → line ≡ codes "arg " ++ word → IsRead SpellsValue word read → IsRead SpellsArg line read
 unfolding arg_line
-no_arg line none value spells = none (value_text value) spells.1
-
-pub bad_arg : (line word : List ℕ) → line ≡ codes "arg " ++ word → ((value : Value) → SpellsValue value word → ⊥) → (value : Value) → SpellsArg value line → ⊥
-unfolding arg_line
-bad_arg line word e none value spells = none value (spells.0, same_behind (codes "arg ") word (value_text value) (sym e ∙ spells.1))
-
-pub good_arg : (line word : List ℕ) (value : Value) → line ≡ codes "arg " ++ word → SpellsValue value word → SpellsArg value line
-unfolding arg_line
-good_arg line word value e spells = (spells.0, e ∙ ap (λ (t : List ℕ). codes "arg " ++ t) spells.1)
+arg_read line word (Some value) e read = (read.0, e ∙ ap (λ (t : List ℕ). codes "arg " ++ t) read.1)
+arg_read line word None e read = λ value spells. read value (spells.0, same_behind (codes "arg ") word (value_text value) (sym e ∙ spells.1))
 
 -- ---- lines of any kind
 
@@ -137,14 +130,18 @@ no_carried line args ins learns (Arg value) spells = args value spells.1
 no_carried line args ins learns (In number object) spells = ins (number, object) spells.1
 no_carried line args ins learns (Learn chain) spells = learns chain spells.1
 
-pub no_further : (line : List ℕ) → ((parts : NamedSlot × Out) → SpellsSet parts line → ⊥) → ((parts : ℕ × Made) → SpellsNew parts line → ⊥) → ((further : FurtherLine) → SpellsCarried further line → ⊥)
-    → (further : FurtherLine) → SpellsFurther further line → ⊥
+-- what is read of a line that says nothing of what a run wrote or made
+pub further_read : (line : List ℕ) (read : Option FurtherLine) → ((parts : NamedSlot × Out) → SpellsSet parts line → ⊥) → ((parts : ℕ × Made) → SpellsNew parts line → ⊥) → IsRead SpellsCarried line read → IsRead SpellsFurther line read
 unfolding further_text
-no_further line sets news carried (Set slot value) spells = sets (slot, value) spells
-no_further line sets news carried (New number made) spells = news (number, made) spells
-no_further line sets news carried (Arg value) spells = carried (Arg value) (tt, spells)
-no_further line sets news carried (In number object) spells = carried (In number object) (tt, spells)
-no_further line sets news carried (Learn chain) spells = carried (Learn chain) (tt, spells)
+further_read line (Some further) sets news read = read.1
+further_read line None sets news read = other
+  where
+    other : (further : FurtherLine) → SpellsFurther further line → ⊥
+    other (Set slot value) spells = sets (slot, value) spells
+    other (New number made) spells = news (number, made) spells
+    other (Arg value) spells = read (Arg value) (tt, spells)
+    other (In number object) spells = read (In number object) (tt, spells)
+    other (Learn chain) spells = read (Learn chain) (tt, spells)
 
 -- ---- one line says one thing
 

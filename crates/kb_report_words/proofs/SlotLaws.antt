@@ -134,6 +134,14 @@ same_named (Element a i) (Element b j) p q e =
 
 -- ---- slots in lines
 
+-- what is told of nothing that was read, and of what was read
+pub none_told : {A : Type 0} (P : Type 0) (Q : A → Type 0) (read : Option A) → read ≡ None → MatchOption read P Q → P
+none_told P Q (Some x) is told = absurd cc
+none_told P Q None is told = told
+
+pub some_told : {A : Type 0} (P : Type 0) (Q : A → Type 0) (read : Option A) (x : A) → read ≡ Some x → MatchOption read P Q → Q x
+some_told {A} P Q read x is told = let here : MatchOption (Some x) P Q = subst (λ (r : Option A). MatchOption r P Q) is told in here
+
 -- one text has one slot behind a front and before a space, and one rest
 pub slot_parts : (front : List ℕ) (one other : NamedSlot) (us vs : List ℕ) → IsNamed one → IsNamed other → front ++ (named_text one ++ 32 ∷ us) ≡ front ++ (named_text other ++ 32 ∷ vs) → (one ≡ other) × (us ≡ vs)
 slot_parts front one other us vs p q e =
