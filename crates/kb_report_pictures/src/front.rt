@@ -1,4 +1,10 @@
 //! What the lines of a picture have said so far.
+ghost use Rattle.std.specs.Prelude.{◌≡◌, ℕ, [], List, IfOk};
+ghost use Rattle.kb_report_words.specs.declared.line.Line.{Line};
+ghost use Rattle.kb_report_words.specs.declared.line.Line.TheVariants.{Picture as PictureOf};
+ghost use Rattle.kb_classes.specs.World.{World as PlainWorld};
+ghost use Rattle.kb_report_pictures.specs.Fronts.{StandsBehind, Takes};
+ghost use Rattle.kb_report_pictures.specs.Pictures.{IsWhole};
 
 use crate::NoMemory;
 use crate::objects::may_be;
@@ -26,7 +32,9 @@ pub struct PictureFront {
 
 impl PictureFront {
     /// No line is read.
-    pub fn new(alloc: Global, arguments: usize) -> PictureFront {
+    pub fn new(alloc: Global, arguments: usize) -> PictureFront
+        ensures { (world : PlainWorld) → StandsBehind world arguments result [] }
+    {
         PictureFront {
             arguments,
             picture: Picture::new(alloc),
@@ -38,7 +46,9 @@ impl PictureFront {
     }
 
     /// Takes one line more; whether some picture goes on.
-    pub fn take(&mut self, fields: &Fields<'_>, line: PictureLine) -> Result<bool, NoMemory> {
+    pub fn take(&mut self, fields: &Fields<'_>, line: PictureLine) -> Result<bool, NoMemory>
+        ensures { (params : ℕ) (lines : List Line) → StandsBehind fields.now params self.old lines → IfOk result (Takes fields.now params self.new lines (PictureOf line)) }
+    {
         match line {
             PictureLine::See(slot, seen) => self.see(fields, &slot, seen),
             PictureLine::Loc(number, standing) => self.locate(number, standing),
@@ -199,22 +209,30 @@ impl PictureFront {
     }
 
     /// Whether the lines may be over: each location and each object has its line.
-    pub fn is_whole(&self) -> bool {
+    pub fn is_whole(&self) -> bool
+        ensures { (world : PlainWorld) (params : ℕ) (lines : List Line) → StandsBehind world params self.now lines → IsWhole world params lines self.now.picture result }
+    {
         self.is_located() && self.picture.objects.as_slice().len() as u64 == self.objects.count()
     }
 
     /// How many variables are seen.
-    pub fn variables(&self) -> usize {
+    pub fn variables(&self) -> usize
+        ensures { result ≡ self.now.variables }
+    {
         self.variables
     }
 
     /// The picture.
-    pub fn picture(&self) -> &Picture {
+    pub fn picture(&self) -> &Picture
+        ensures { result.now ≡ self.now.picture }
+    {
         &self.picture
     }
 
     /// The picture, taken out.
-    pub fn into_picture(self) -> Picture {
+    pub fn into_picture(self) -> Picture
+        ensures { result ≡ self.picture }
+    {
         self.picture
     }
 }
