@@ -5,7 +5,7 @@ ghost use Rattle.kb_report_words.specs.Totals.{SpellsTotals};
 use crate::counts::{count_behind, last_count};
 
 /// How many paths there are, and how many of each kind.
-#[derive(Clone, Copy)]
+#[derive(Clone, Copy, PartialEq, Eq)]
 pub struct Totals {
     pub all: usize,
     pub ended: usize,
