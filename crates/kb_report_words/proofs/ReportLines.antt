@@ -55,7 +55,7 @@ use Rattle.kb_terms.specs.declared.listing.Term.{Term}
 
 -- ---- texts
 
-abbrev texts_of : List Line → List (List ℕ)
+abbrev pub texts_of : List Line → List (List ℕ)
 texts_of lines = map line_text lines
 
 slot_named : (world : World) (objects : List PicObject) (slot : Origin) → slot_text world objects slot ≡ named_text (name_of world objects slot)
