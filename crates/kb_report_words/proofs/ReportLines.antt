@@ -35,6 +35,7 @@ use Rattle.kb_picture.specs.declared.picture.PicLoc.{PicLoc}
 use Rattle.kb_picture.specs.declared.picture.PicObject.{PicObject}
 use Rattle.kb_picture.specs.declared.picture.Picture.{Picture}
 use Rattle.kb_picture.specs.declared.picture.Seen.{Seen}
+use Rattle.kb_report_laws.proofs.Sections.{all_both}
 use Rattle.kb_report_laws.proofs.WordLaws.{field_lacks}
 use Rattle.kb_report_text.specs.Blocks.{see_line, loc_line, obj_line, picture_lines, let_line, when_line, set_line, new_line, arg_line, in_line, input_lines, further_lines, leaf_lines, path_line, path_lines}
 use Rattle.kb_report_text.specs.Ranges.{IsCount, OriginFits, SlotFits, ObjectFits, IsLocInRange, ConditionFits, WriteFits, MadeFits, InputFits, InputObjectFits, EndingFits, LeafFits, PathFits}
@@ -188,10 +189,6 @@ numbered_are : {A : Type 0} (P : A → Type 0) (g : ℕ → A → Line) → ((n 
 numbered_are P g is n [] few all = tt
 numbered_are P g is n (x ∷ xs) few all = (is n x (omega (arith, few)) all.0, numbered_are P g is (n + 1) xs (omega (arith, few)) all.1)
 
-all_pairs : {A : Type 0} (P Q : A → Type 0) (xs : List A) → AllByRecursion P xs → AllByRecursion Q xs → AllByRecursion (λ x. P x × Q x) xs
-all_pairs P Q [] p q = tt
-all_pairs P Q (x ∷ xs) p q = ((p.0, q.0), all_pairs P Q xs p.1 q.1)
-
 field_lacks_space : (world : World) (field : Option FieldSlot) → Lacks 32 (option_map_or (field_text world) field [])
 field_lacks_space world None = tt
 field_lacks_space world (Some field) = field_lacks 32 space world field
@@ -208,7 +205,7 @@ picture_are world path fits names =
     let locs = numbered_are IsLocInRange loc_of (λ n loc few is. (few, is)) 0 picture.locs fits.counts.locs fits.locs in
     let objs = numbered_are (λ (object : PicObject). ObjectFits object × IsExact object.kind) (obj_of world picture.objects)
     (λ n object few is. (few, record { kind = is.1; length = is.0.length; slot = is_named world picture.objects object.origin is.0.origin })) 0 picture.objects fits.counts.objects
-    (all_pairs ObjectFits (λ (object : PicObject). IsExact object.kind) picture.objects fits.objects names) in
+    (all_both ObjectFits (λ (object : PicObject). IsExact object.kind) picture.objects fits.objects names) in
     All-++ IsLine (map (see_of world picture.objects) picture.seen) (numbered loc_of 0 picture.locs ++ numbered (obj_of world picture.objects) 0 picture.objects) sees
     (All-++ IsLine (numbered loc_of 0 picture.locs) (numbered (obj_of world picture.objects) 0 picture.objects) locs objs)
 
@@ -216,7 +213,7 @@ input_are : (input : Input) → InputFits input → IsNamedInput input → AllBy
 input_are input fits names =
     All-++ IsLine (map arg_of input.args) (numbered in_of 0 input.heap.objects) (mapped_are ValueFits arg_of (λ value is. is) input.args fits.args)
     (numbered_are (λ (object : Object). InputObjectFits object × IsExact object.kind) in_of (λ n object few is. (few, (is.1, is.0))) 0 input.heap.objects fits.count
-    (all_pairs InputObjectFits (λ (object : Object). IsExact object.kind) input.heap.objects fits.objects names))
+    (all_both InputObjectFits (λ (object : Object). IsExact object.kind) input.heap.objects fits.objects names))
 
 is_ending : (ending : SymEnding) → EndingFits ending → IsNamedEnding ending → IsEnding ending
 is_ending (Returned None) fits names = tt
@@ -234,7 +231,7 @@ further_are : (world : World) (objects : List PicObject) (leaf : Leaf) → LeafF
 further_are world objects (leaves.Ended ended) fits names =
     let sets = mapped_are WriteFits (set_of world objects) (λ write is. (is_named world objects write.slot is.0, is.1)) ended.writes fits.writes in
     let news = numbered_are (λ (made : Made). MadeFits made × IsExact made.kind) new_of (λ n made few is. (few, (is.1, is.0))) 0 ended.made fits.count
-    (all_pairs MadeFits (λ (made : Made). IsExact made.kind) ended.made fits.made names.made) in
+    (all_both MadeFits (λ (made : Made). IsExact made.kind) ended.made fits.made names.made) in
     All-++ IsLine (map (set_of world objects) ended.writes) (numbered new_of 0 ended.made ++ input_of ended.input) sets
     (All-++ IsLine (numbered new_of 0 ended.made) (input_of ended.input) news (input_are ended.input fits.input names.input))
 further_are world objects (leaves.Cut bound input) fits names = input_are input fits names
