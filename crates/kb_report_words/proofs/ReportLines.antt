@@ -202,9 +202,9 @@ picture_are : (world : World) (path : Path) → PathFits path → AreNamed path.
 picture_are world path fits names =
     let picture = path.picture in
     let sees = mapped_are SlotFits (see_of world picture.objects) (λ slot is. (is_named world picture.objects slot.0 is.0, is.1)) picture.seen fits.seen in
-    let locs = numbered_are IsLocInRange loc_of (λ n loc few is. (few, is)) 0 picture.locs fits.counts.locs fits.locs in
+    let locs = numbered_are IsLocInRange loc_of (λ n loc few is. (few, is)) 0 picture.locs (omega (arith, fits.counts.locs)) fits.locs in
     let objs = numbered_are (λ (object : PicObject). ObjectFits object × IsExact object.kind) (obj_of world picture.objects)
-    (λ n object few is. (few, record { kind = is.1; length = is.0.length; slot = is_named world picture.objects object.origin is.0.origin })) 0 picture.objects fits.counts.objects
+    (λ n object few is. (few, record { kind = is.1; length = is.0.length; slot = is_named world picture.objects object.origin is.0.origin })) 0 picture.objects (omega (arith, fits.counts.objects))
     (all_both ObjectFits (λ (object : PicObject). IsExact object.kind) picture.objects fits.objects names) in
     All-++ IsLine (map (see_of world picture.objects) picture.seen) (numbered loc_of 0 picture.locs ++ numbered (obj_of world picture.objects) 0 picture.objects) sees
     (All-++ IsLine (numbered loc_of 0 picture.locs) (numbered (obj_of world picture.objects) 0 picture.objects) locs objs)
@@ -212,7 +212,7 @@ picture_are world path fits names =
 input_are : (input : Input) → InputFits input → IsNamedInput input → AllByRecursion IsLine (input_of input)
 input_are input fits names =
     All-++ IsLine (map arg_of input.args) (numbered in_of 0 input.heap.objects) (mapped_are ValueFits arg_of (λ value is. is) input.args fits.args)
-    (numbered_are (λ (object : Object). InputObjectFits object × IsExact object.kind) in_of (λ n object few is. (few, (is.1, is.0))) 0 input.heap.objects fits.count
+    (numbered_are (λ (object : Object). InputObjectFits object × IsExact object.kind) in_of (λ n object few is. (few, (is.1, is.0))) 0 input.heap.objects (omega (arith, fits.count))
     (all_both InputObjectFits (λ (object : Object). IsExact object.kind) input.heap.objects fits.objects names))
 
 is_ending : (ending : SymEnding) → EndingFits ending → IsNamedEnding ending → IsEnding ending
@@ -230,7 +230,7 @@ first_is leaves.Open fits names = tt
 further_are : (world : World) (objects : List PicObject) (leaf : Leaf) → LeafFits leaf → IsNamedLeaf leaf → AllByRecursion IsLine (further_of world objects leaf)
 further_are world objects (leaves.Ended ended) fits names =
     let sets = mapped_are WriteFits (set_of world objects) (λ write is. (is_named world objects write.slot is.0, is.1)) ended.writes fits.writes in
-    let news = numbered_are (λ (made : Made). MadeFits made × IsExact made.kind) new_of (λ n made few is. (few, (is.1, is.0))) 0 ended.made fits.count
+    let news = numbered_are (λ (made : Made). MadeFits made × IsExact made.kind) new_of (λ n made few is. (few, (is.1, is.0))) 0 ended.made (omega (arith, fits.count))
     (all_both MadeFits (λ (made : Made). IsExact made.kind) ended.made fits.made names.made) in
     All-++ IsLine (map (set_of world objects) ended.writes) (numbered new_of 0 ended.made ++ input_of ended.input) sets
     (All-++ IsLine (numbered new_of 0 ended.made) (input_of ended.input) news (input_are ended.input fits.input names.input))
@@ -241,9 +241,9 @@ further_are world objects leaves.Open fits names = tt
 path_are : (world : World) (path : Path) → PathFits path → IsNamedPath path → AllByRecursion IsLine (path_of world path)
 path_are world path fits names =
     let ends = first_of path.leaf ∷ further_of world path.picture.objects path.leaf in
-    let leaf = (first_is path.leaf fits.leaf names.leaf, further_are world path.picture.objects path.leaf fits.leaf names.leaf) in
+    let leaf : AllByRecursion IsLine ends = (first_is path.leaf fits.leaf names.leaf, further_are world path.picture.objects path.leaf fits.leaf names.leaf) in
     let whens = All-++ IsLine (map when_of path.when) ends (mapped_are ConditionFits when_of (λ condition is. is) path.when fits.when) leaf in
-    let lets = All-++ IsLine (numbered let_of 0 path.terms) (map when_of path.when ++ ends) (numbered_are IsTermInRange let_of (λ n term few is. (few, is)) 0 path.terms fits.counts.terms fits.terms) whens in
+    let lets = All-++ IsLine (numbered let_of 0 path.terms) (map when_of path.when ++ ends) (numbered_are IsTermInRange let_of (λ n term few is. (few, is)) 0 path.terms (omega (arith, fits.counts.terms)) fits.terms) whens in
     (fits.decisions, All-++ IsLine (picture_of world path.picture) (numbered let_of 0 path.terms ++ (map when_of path.when ++ ends)) (picture_are world path fits names.picture) lets)
 
 paths_are : (world : World) (paths : List Path) → AllByRecursion PathFits paths → AllByRecursion IsNamedPath paths → AllByRecursion IsLine (flat_map (path_of world) paths)

@@ -13,4 +13,4 @@ returns-in_err-run c =
     rw c.from_residual-in_err-run.ensures (no_run c.args.text.now c.in_ok-k.rest.now c.in_ok-array.rest.now c.in_ok-k.k c.in_ok-array.array c.in_ok-k.ensures c.in_ok-array.ensures c.in_err-run.ensures)
 
 pub returns : goal.returns
-returns c = bounds_read c.args.text.now c.in_ok-k.rest.now c.in_ok-array.rest.now c.in_ok-k.k c.in_ok-array.array c.in_ok-run.run c.in_ok-run.rest.now c.in_ok-k.ensures c.in_ok-array.ensures c.in_ok-run.ensures
+returns c = bounds_read c.args.text.now c.in_ok-k.rest.now c.in_ok-array.rest.now c.in_ok-k.k c.in_ok-array.array c.in_ok-run.run' c.in_ok-run.rest.now c.in_ok-k.ensures c.in_ok-array.ensures c.in_ok-run.ensures
