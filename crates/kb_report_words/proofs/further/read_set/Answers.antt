@@ -1,5 +1,5 @@
 use Rattle.kb_report_words.proofs.SlotLaws.{none_told, some_told}
-use Rattle.kb_report_words.proofs.FurtherLaws.{no_set, bad_value, good_set}
+use Rattle.kb_report_words.proofs.FurtherLaws.{no_set, bad_value}
 use Rattle.kb_report_words.proofs.further.read_set.Goals as goal
 
 pub returns-in_default : goal.returns-in_default

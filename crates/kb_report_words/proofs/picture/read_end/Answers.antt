@@ -1,6 +1,6 @@
 use Rattle.kb_grammar.proofs.ReadLaws.{none_read}
 use Rattle.kb_report_words.specs.Slots.{SpellsNamed}
-use Rattle.kb_report_words.proofs.PictureLaws.{no_slot, end_read}
+use Rattle.kb_report_words.proofs.PictureLaws.{no_slot}
 use Rattle.kb_report_words.proofs.picture.read_end.Goals as goal
 
 pub returns-in-None : goal.returns-in-None

@@ -1,6 +1,6 @@
 use Rattle.kb_grammar.proofs.ReadLaws.{none_read}
 use Rattle.kb_report_words.specs.Picture.{SpellsObject}
-use Rattle.kb_report_words.proofs.PictureLaws.{no_obj, bad_object, good_obj}
+use Rattle.kb_report_words.proofs.PictureLaws.{no_obj, bad_object}
 use Rattle.kb_report_words.proofs.picture.read_obj.Goals as goal
 
 pub returns-in_default : goal.returns-in_default

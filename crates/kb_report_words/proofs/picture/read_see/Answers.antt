@@ -1,5 +1,5 @@
 use Rattle.kb_report_words.proofs.SlotLaws.{none_told, some_told}
-use Rattle.kb_report_words.proofs.PictureLaws.{no_see, bad_seen, good_see}
+use Rattle.kb_report_words.proofs.PictureLaws.{no_see, bad_seen}
 use Rattle.kb_report_words.proofs.picture.read_see.Goals as goal
 
 pub returns-in_default : goal.returns-in_default
