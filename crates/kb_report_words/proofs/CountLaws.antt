@@ -13,7 +13,7 @@ use Rattle.kb_report_text.specs.Ranges.{IsCount}
 use Rattle.kb_report_words.specs.Counts.{SpellsCount}
 
 -- the greatest count
-abbrev limit : ℕ
+abbrev pub limit : ℕ
 limit = 2 ^ 64 - 1
 
 is_count : (count : ℕ) → count ≤ limit → IsCount count

@@ -35,6 +35,7 @@ use Rattle.kb_picture.specs.declared.picture.PicLoc.{PicLoc}
 use Rattle.kb_picture.specs.declared.picture.PicObject.{PicObject}
 use Rattle.kb_picture.specs.declared.picture.Picture.{Picture}
 use Rattle.kb_picture.specs.declared.picture.Seen.{Seen}
+use Rattle.kb_report_laws.proofs.Sections.{all_both}
 use Rattle.kb_report_laws.proofs.WordLaws.{field_lacks}
 use Rattle.kb_report_text.specs.Blocks.{see_line, loc_line, obj_line, picture_lines, let_line, when_line, set_line, new_line, arg_line, in_line, input_lines, further_lines, leaf_lines, path_line, path_lines}
 use Rattle.kb_report_text.specs.Ranges.{IsCount, OriginFits, SlotFits, ObjectFits, IsLocInRange, ConditionFits, WriteFits, MadeFits, InputFits, InputObjectFits, EndingFits, LeafFits, PathFits}
@@ -55,7 +56,7 @@ use Rattle.kb_terms.specs.declared.listing.Term.{Term}
 
 -- ---- texts
 
-abbrev texts_of : List Line → List (List ℕ)
+abbrev pub texts_of : List Line → List (List ℕ)
 texts_of lines = map line_text lines
 
 slot_named : (world : World) (objects : List PicObject) (slot : Origin) → slot_text world objects slot ≡ named_text (name_of world objects slot)
@@ -188,10 +189,6 @@ numbered_are : {A : Type 0} (P : A → Type 0) (g : ℕ → A → Line) → ((n 
 numbered_are P g is n [] few all = tt
 numbered_are P g is n (x ∷ xs) few all = (is n x (omega (arith, few)) all.0, numbered_are P g is (n + 1) xs (omega (arith, few)) all.1)
 
-all_pairs : {A : Type 0} (P Q : A → Type 0) (xs : List A) → AllByRecursion P xs → AllByRecursion Q xs → AllByRecursion (λ x. P x × Q x) xs
-all_pairs P Q [] p q = tt
-all_pairs P Q (x ∷ xs) p q = ((p.0, q.0), all_pairs P Q xs p.1 q.1)
-
 field_lacks_space : (world : World) (field : Option FieldSlot) → Lacks 32 (option_map_or (field_text world) field [])
 field_lacks_space world None = tt
 field_lacks_space world (Some field) = field_lacks 32 space world field
@@ -205,18 +202,18 @@ picture_are : (world : World) (path : Path) → PathFits path → AreNamed path.
 picture_are world path fits names =
     let picture = path.picture in
     let sees = mapped_are SlotFits (see_of world picture.objects) (λ slot is. (is_named world picture.objects slot.0 is.0, is.1)) picture.seen fits.seen in
-    let locs = numbered_are IsLocInRange loc_of (λ n loc few is. (few, is)) 0 picture.locs fits.counts.locs fits.locs in
+    let locs = numbered_are IsLocInRange loc_of (λ n loc few is. (few, is)) 0 picture.locs (omega (arith, fits.counts.locs)) fits.locs in
     let objs = numbered_are (λ (object : PicObject). ObjectFits object × IsExact object.kind) (obj_of world picture.objects)
-    (λ n object few is. (few, record { kind = is.1; length = is.0.length; slot = is_named world picture.objects object.origin is.0.origin })) 0 picture.objects fits.counts.objects
-    (all_pairs ObjectFits (λ (object : PicObject). IsExact object.kind) picture.objects fits.objects names) in
+    (λ n object few is. (few, record { kind = is.1; length = is.0.length; slot = is_named world picture.objects object.origin is.0.origin })) 0 picture.objects (omega (arith, fits.counts.objects))
+    (all_both ObjectFits (λ (object : PicObject). IsExact object.kind) picture.objects fits.objects names) in
     All-++ IsLine (map (see_of world picture.objects) picture.seen) (numbered loc_of 0 picture.locs ++ numbered (obj_of world picture.objects) 0 picture.objects) sees
     (All-++ IsLine (numbered loc_of 0 picture.locs) (numbered (obj_of world picture.objects) 0 picture.objects) locs objs)
 
 input_are : (input : Input) → InputFits input → IsNamedInput input → AllByRecursion IsLine (input_of input)
 input_are input fits names =
     All-++ IsLine (map arg_of input.args) (numbered in_of 0 input.heap.objects) (mapped_are ValueFits arg_of (λ value is. is) input.args fits.args)
-    (numbered_are (λ (object : Object). InputObjectFits object × IsExact object.kind) in_of (λ n object few is. (few, (is.1, is.0))) 0 input.heap.objects fits.count
-    (all_pairs InputObjectFits (λ (object : Object). IsExact object.kind) input.heap.objects fits.objects names))
+    (numbered_are (λ (object : Object). InputObjectFits object × IsExact object.kind) in_of (λ n object few is. (few, (is.1, is.0))) 0 input.heap.objects (omega (arith, fits.count))
+    (all_both InputObjectFits (λ (object : Object). IsExact object.kind) input.heap.objects fits.objects names))
 
 is_ending : (ending : SymEnding) → EndingFits ending → IsNamedEnding ending → IsEnding ending
 is_ending (Returned None) fits names = tt
@@ -233,8 +230,8 @@ first_is leaves.Open fits names = tt
 further_are : (world : World) (objects : List PicObject) (leaf : Leaf) → LeafFits leaf → IsNamedLeaf leaf → AllByRecursion IsLine (further_of world objects leaf)
 further_are world objects (leaves.Ended ended) fits names =
     let sets = mapped_are WriteFits (set_of world objects) (λ write is. (is_named world objects write.slot is.0, is.1)) ended.writes fits.writes in
-    let news = numbered_are (λ (made : Made). MadeFits made × IsExact made.kind) new_of (λ n made few is. (few, (is.1, is.0))) 0 ended.made fits.count
-    (all_pairs MadeFits (λ (made : Made). IsExact made.kind) ended.made fits.made names.made) in
+    let news = numbered_are (λ (made : Made). MadeFits made × IsExact made.kind) new_of (λ n made few is. (few, (is.1, is.0))) 0 ended.made (omega (arith, fits.count))
+    (all_both MadeFits (λ (made : Made). IsExact made.kind) ended.made fits.made names.made) in
     All-++ IsLine (map (set_of world objects) ended.writes) (numbered new_of 0 ended.made ++ input_of ended.input) sets
     (All-++ IsLine (numbered new_of 0 ended.made) (input_of ended.input) news (input_are ended.input fits.input names.input))
 further_are world objects (leaves.Cut bound input) fits names = input_are input fits names
@@ -244,9 +241,9 @@ further_are world objects leaves.Open fits names = tt
 path_are : (world : World) (path : Path) → PathFits path → IsNamedPath path → AllByRecursion IsLine (path_of world path)
 path_are world path fits names =
     let ends = first_of path.leaf ∷ further_of world path.picture.objects path.leaf in
-    let leaf = (first_is path.leaf fits.leaf names.leaf, further_are world path.picture.objects path.leaf fits.leaf names.leaf) in
+    let leaf : AllByRecursion IsLine ends = (first_is path.leaf fits.leaf names.leaf, further_are world path.picture.objects path.leaf fits.leaf names.leaf) in
     let whens = All-++ IsLine (map when_of path.when) ends (mapped_are ConditionFits when_of (λ condition is. is) path.when fits.when) leaf in
-    let lets = All-++ IsLine (numbered let_of 0 path.terms) (map when_of path.when ++ ends) (numbered_are IsTermInRange let_of (λ n term few is. (few, is)) 0 path.terms fits.counts.terms fits.terms) whens in
+    let lets = All-++ IsLine (numbered let_of 0 path.terms) (map when_of path.when ++ ends) (numbered_are IsTermInRange let_of (λ n term few is. (few, is)) 0 path.terms (omega (arith, fits.counts.terms)) fits.terms) whens in
     (fits.decisions, All-++ IsLine (picture_of world path.picture) (numbered let_of 0 path.terms ++ (map when_of path.when ++ ends)) (picture_are world path fits names.picture) lets)
 
 paths_are : (world : World) (paths : List Path) → AllByRecursion PathFits paths → AllByRecursion IsNamedPath paths → AllByRecursion IsLine (flat_map (path_of world) paths)

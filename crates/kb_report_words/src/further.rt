@@ -144,6 +144,7 @@ fn read_in(alloc: Global, line: &[u8]) -> Result<Option<(usize, Held<Object>)>, 
 }
 
 // A line of the input, or of the log.
+#[tactic(auto, unfolding(crate::specs::Further::further_text))]
 fn read_carried(alloc: Global, line: &[u8]) -> Result<Option<FurtherLine>, NoMemory>
     ensures { IfOk result (IsRead SpellsCarried line.now) }
 {
@@ -160,6 +161,7 @@ fn read_carried(alloc: Global, line: &[u8]) -> Result<Option<FurtherLine>, NoMem
 }
 
 /// The line behind the first one of a leaf that is spelled.
+#[tactic(auto, unfolding(crate::specs::Further::further_text))]
 pub(crate) fn read_further(alloc: Global, line: &[u8]) -> Result<Option<FurtherLine>, NoMemory>
     ensures { IfOk result (IsRead SpellsFurther line.now) }
 {

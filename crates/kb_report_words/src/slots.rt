@@ -42,13 +42,15 @@ fn read_field(alloc: Global, object: u32, text: &[u8]) -> Result<Option<NamedSlo
 }
 
 // An argument or an element.
+#[tactic(auto, unfolding(crate::specs::Slots::named_text, kb_path_words::specs::Slots::slot_text))]
 fn read_plain_slot(alloc: Global, word: &[u8]) -> Result<Option<NamedSlot>, NoMemory>
     ensures { IfOk result (IsRead SpellsPlainSlot word.now) }
 {
     match read_slot(alloc, word)? {
         Some(SlotWord::Arg(number)) => Ok(Some(NamedSlot::Arg(number))),
         Some(SlotWord::Element(array, index)) => Ok(Some(NamedSlot::Element(array, index))),
-        Some(SlotWord::Field(..)) | None => Ok(None),
+        Some(SlotWord::Field(..)) => Ok(None),
+        None => Ok(None),
     }
 }
 

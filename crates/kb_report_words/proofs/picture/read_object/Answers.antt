@@ -1,0 +1,15 @@
+use Rattle.kb_grammar.proofs.ReadLaws.{none_read}
+use Rattle.kb_heap_words.specs.Words.{SpellsExact}
+use Rattle.kb_report_words.specs.Picture.{SpellsEnd}
+use Rattle.kb_report_words.proofs.PictureLaws.{bad_end, bad_kind}
+use Rattle.kb_report_words.proofs.picture.read_object.Goals as goal
+
+pub returns-in_default : goal.returns-in_default
+returns-in_default c =
+    bad_end c.args.text.now c.first_part.result.0.now c.first_part.result.1.now c.first_part.ensures.part c.first_part.ensures.rest c.first_part.ensures.text
+    (none_read SpellsEnd c.first_part.result.1.now c.in_ok-length.field-0 c.in_default.is c.in_ok-length.ensures)
+
+pub returns-in-None : goal.returns-in-None
+returns-in-None c =
+    bad_kind c.args.text.now c.first_part.result.0.now c.first_part.result.1.now c.first_part.ensures.part c.first_part.ensures.rest c.first_part.ensures.text
+    (none_read SpellsExact c.first_part.result.0.now c.in_ok-kind.field-0 c.in-None.is c.in_ok-kind.ensures)

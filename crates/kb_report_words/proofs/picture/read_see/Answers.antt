@@ -1,0 +1,11 @@
+use Rattle.kb_report_words.proofs.SlotLaws.{none_told, some_told}
+use Rattle.kb_report_words.proofs.PictureLaws.{no_see, bad_seen}
+use Rattle.kb_report_words.proofs.picture.read_see.Goals as goal
+
+pub returns-in_default : goal.returns-in_default
+returns-in_default c = no_see c.args.line.now (none_told _ _ c.in_ok-slot.field-0 c.in_default.is c.in_ok-slot.ensures)
+
+pub returns-in-None : goal.returns-in-None
+returns-in-None c =
+    let there = some_told _ _ c.in_ok-slot.field-0 (c.in-Some.slot, c.in-Some.word) c.in-Some.is c.in_ok-slot.ensures in
+    bad_seen c.args.line.now c.in-Some.word.now c.in-Some.slot there.0 there.1 c.in-None.ensures
