@@ -1,0 +1,1 @@
+pub use crate::kb_semantics::*;

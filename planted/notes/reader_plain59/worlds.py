@@ -1,0 +1,16 @@
+import sys,os
+sys.path.insert(0,"/work/h/reader59/inc/rest/examples/report")
+from world import Class
+D="/work/h/reader59/inc/rest/crates/reading_rows/data"
+os.makedirs("/work/h/reader59/inc/plain/worlds",exist_ok=True)
+def hx(s): return s.encode("latin-1").hex() 
+for line in open(D+"/rows"):
+    if line.startswith("files "):
+        names=line[6:].rstrip("\n")
+        out=[];lits=set()
+        for n in names.split(" "):
+            c=Class(open(f"{D}/{n}","rb").read()); lits|=c.literals
+            out.append(f"class {hx(c.name)} {hx(c.parent) if c.parent else '-'}")
+            for a,nm,k,_ in c.fields: out.append(f"field {a} {hx(nm)} {hx(k)}")
+            for a,nm,k,at in c.methods: out.append(f"method {a} {hx(nm)} {hx(k)} {int('Code' in at)}")
+        open("/work/h/reader59/inc/plain/worlds/"+names.replace(" ","_"),"w").write("\n".join([f"literals {len(lits)}"]+out)+"\n")
